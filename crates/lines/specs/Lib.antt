@@ -1,0 +1,6 @@
+pub mod Lines
+pub mod Cutting
+pub mod Laws
+pub mod Outcomes
+pub mod Window
+pub mod Once

@@ -1,0 +1,60 @@
+-- The four outcomes of cutting a line, and what is known of a line that is taken.
+use Prim.Native.Nat.{ℕ, _+_, _≤_, _<_, min}
+use mathlib.Core.Bool.{Bool, true, false}
+use mathlib.Core.Path.{_≡_, refl}
+use native.Mathlib.Omega.{arith}
+use borrow.Author.Tests.{eqb-true, eqb-false, eq-eqb, ne-eqb}
+use lib.Dec.{eqb}
+use lib.ListN.{length}
+use Rattle.laws.specs.Choice.{if_then_else_}
+use Rattle.laws.specs.Finding.{value, refused}
+use Rattle.lines.specs.Cutting.{beyond, cutting}
+use Rattle.lines.specs.Lines.{Line, sizeOf}
+
+module _ (n : ℕ) (line : Line) where
+  other-length : (length (line .text) ≡ n → ⊥) → cutting n line ≡ refused (min (length (line .text) + 1) (beyond n)) 1
+  unfolding cutting
+  other-length h = rw (ne-eqb (length (line .text)) n h)
+
+  -- "1: length not 290; column is the lesser of length + 1 and 291": 291 for a longer line, length + 1 for a shorter one.
+  pub too-long : n < length (line .text) → cutting n line ≡ refused (beyond n) 1
+  too-long h =
+      let column : min (length (line .text) + 1) (beyond n) ≡ beyond n = omega arith in
+      rw (other-length (λ e. omega arith), column)
+
+  pub too-short : length (line .text) < n → n ≤ 65535 → cutting n line ≡ refused (length (line .text) + 1) 1
+  too-short h told =
+      let column : min (length (line .text) + 1) (beyond n) ≡ length (line .text) + 1 = omega arith in
+      rw (other-length (λ e. omega arith), column)
+
+  -- "2: 290 characters, no end; column 291"
+  pub no-end : length (line .text) ≡ n → length (line .ending) ≡ 0 → cutting n line ≡ refused (beyond n) 2
+  unfolding cutting
+  no-end h e = rw (eq-eqb (length (line .text)) n h, eq-eqb (length (line .ending)) 0 e)
+
+  -- "how many bytes that line and its end take"
+  pub takes : length (line .text) ≡ n → 1 ≤ length (line .ending) → cutting n line ≡ value (sizeOf line)
+  unfolding cutting
+  takes h e = rw (eq-eqb (length (line .text)) n h, ne-eqb (length (line .ending)) 0 (λ z. omega arith))
+
+-- ---- a line that is taken
+pub not-taken : (column number bytes : ℕ) → refused column number ≡ value bytes → ⊥
+not-taken column number bytes e = let z : _≡_ {A = ℕ} 0 1 = cc in omega arith
+
+taken : (n bytes : ℕ) (line : Line) → cutting n line ≡ value bytes → (length (line .text) ≡ n) × (bytes ≡ sizeOf line) × (1 ≤ length (line .ending))
+unfolding cutting
+taken n bytes line = at (eqb (length (line .text)) n) (eqb (length (line .ending)) 0) refl refl where
+  at : (t u : Bool) → eqb (length (line .text)) n ≡ t → eqb (length (line .ending)) 0 ≡ u
+      → (if t then (if u then refused (beyond n) 2 else value (sizeOf line)) else refused (min (length (line .text) + 1) (beyond n)) 1) ≡ value bytes
+      → (length (line .text) ≡ n) × (bytes ≡ sizeOf line) × (1 ≤ length (line .ending))
+  at true true h g e = absurd (not-taken _ _ bytes e)
+  at true false h g e = (eqb-true _ _ h, cc, let some = eqb-false (length (line .ending)) 0 g in omega arith)
+  at false u h g e = absurd (not-taken _ _ bytes e)
+
+-- It has n characters, and the bytes told are those of the line and its end.
+pub taken-is-size : (n bytes : ℕ) (line : Line) → cutting n line ≡ value bytes → (length (line .text) ≡ n) × (bytes ≡ sizeOf line)
+taken-is-size n bytes line e = let is = taken n bytes line e in (is .0, is .1)
+
+-- "Each line has 290 characters and an end, the last one too."
+pub taken-has-end : (n bytes : ℕ) (line : Line) → cutting n line ≡ value bytes → 1 ≤ length (line .ending)
+taken-has-end n bytes line e = taken n bytes line e .2

@@ -1,0 +1,92 @@
+// Cutting the first line off lent bytes, for records of any length.
+use reason::Reason;
+ghost use mathlib.Core.Path.{_≡_};
+ghost use Prim.Native.Nat.{min};
+ghost use lib.ListN.{length, drop};
+ghost use Rattle.lines.specs.Lines.{isEnd, textOf, endOf, firstLine};
+ghost use Rattle.lines.specs.Cutting.{beyond, cutting, cutOf};
+
+// The bytes that a line and its end take, or the column and the reason of its refusal.
+pub enum Cut {
+    Taken(usize),
+    Refused(u16, Reason),
+}
+
+fn is_end(b: u8) -> bool
+    ensures { λ r. ⌜ r ≡ isEnd b ⌝ }
+{
+    if b == 10 {
+        return true;
+    }
+    b == 13
+}
+
+// The length of the first line, where that is at most `most`: it looks no further.
+pub fn line_length(s: &[u8], most: usize) -> usize
+    ensures { λ r. ⌜ r ≡ min (length (textOf (now (s .entry)))) most ⌝ }
+{
+    let mut i = 0;
+    while i < most {
+        if s.len() <= i {
+            return i;
+        }
+        if is_end(s[i]) {
+            return i;
+        }
+        i += 1;
+    }
+    i
+}
+
+// The length of the line end at a place, 0 where there is none.
+fn end_length(s: &[u8], at: usize) -> usize
+    ensures { λ r. ⌜ r ≡ length (endOf (drop at (now (s .entry)))) ⌝ }
+{
+    if s.len() <= at {
+        return 0;
+    }
+    if s[at] == 10 {
+        return 1;
+    }
+    if s[at] != 13 {
+        return 0;
+    }
+    if s.len() - at < 2 {
+        return 1;
+    }
+    if s[at + 1] == 10 { 2 } else { 1 }
+}
+
+fn wide(n: u16) -> usize
+    ensures { λ r. ⌜ r ≡ n ⌝ }
+{
+    n as usize
+}
+
+// The column behind the last one of a record of n characters.
+fn column_beyond(n: u16) -> u16
+    ensures { λ r. ⌜ r ≡ beyond n ⌝ }
+{
+    if n < 65535 {
+        return n + 1;
+    }
+    n
+}
+
+// The first line of the bytes, which is to have n characters and an end. What stands behind its end is ignored.
+pub fn cut_line(s: &[u8], n: u16) -> Cut
+    ensures { λ r. ⌜ cutOf r ≡ cutting n (firstLine (now (s .entry))) ⌝ }
+{
+    let length = line_length(s, wide(n) + 1);
+    if wide(n) < length {
+        return Cut::Refused(column_beyond(n), Reason::LineLength);
+    }
+    if length < wide(n) {
+        return Cut::Refused((length + 1) as u16, Reason::LineLength);
+    }
+    let end = end_length(s, length);
+    if end == 0 {
+        return Cut::Refused(column_beyond(n), Reason::NoLineEnd);
+    }
+    Cut::Taken(length + end)
+}

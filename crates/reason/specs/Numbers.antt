@@ -1,0 +1,74 @@
+-- The paper's number of each reason, and what an edit finds in the paper's numbers.
+use Prim.Native.Nat.{ℕ}
+use Rattle.laws.specs.Finding.{Finding, fine, broken}
+use Rattle.reason.specs.declared.Edit.{Edit}
+use Rattle.reason.specs.declared.Edit.the-variants.{Passed, Broken}
+use Rattle.reason.specs.declared.Reason.{Reason}
+use Rattle.reason.specs.declared.Reason.the-variants.{LineLength, NoLineEnd, BadCharacter, UnknownLetter, EndsBeforeA, EndsAfterA, EndsWithEOpen, EndsWithoutF, BeforeA, SecondA, SWithoutE, TWithoutE, FWithoutE, EWhileEOpen, SUnderZeroE, FWhileEOpen, SecondT, SecondF, BehindF, NotDigit, NotBlank, TextMissing, TextIndented, NotEntityCode, UnknownState, BadZip, BadZipExtension, YearTooEarly, YearNotClosed, BadPeriod, PeriodNotClosed, YearNotOfA, PeriodNotOfA, FeinPrefix, FeinRepeated, FeinNotOfE, BadFlag, NoDate, DateOutsideQuarter, DateNotFinal, DateMissing, IdentityPrefix, IdentityRepeated, BadNameCharacter, CountNotOfS, NoneUnderE, WagesNotOfS, FileCountNotOfS, FileCountNotOfE, FileWagesNotOfS, TooManyS, IdTableFull, EmployerListFull, BadQuarter, WalkEnded, StateUnfit, NotToBeWritten, NoneToTotal, SumTooLarge, SliceLength}
+
+abbrev pub numberOf : Reason → ℕ
+numberOf LineLength = 1
+numberOf NoLineEnd = 2
+numberOf BadCharacter = 3
+numberOf UnknownLetter = 4
+numberOf EndsBeforeA = 5
+numberOf EndsAfterA = 6
+numberOf EndsWithEOpen = 7
+numberOf EndsWithoutF = 8
+numberOf BeforeA = 10
+numberOf SecondA = 11
+numberOf SWithoutE = 12
+numberOf TWithoutE = 13
+numberOf FWithoutE = 14
+numberOf EWhileEOpen = 15
+numberOf SUnderZeroE = 16
+numberOf FWhileEOpen = 17
+numberOf SecondT = 18
+numberOf SecondF = 19
+numberOf BehindF = 20
+numberOf NotDigit = 30
+numberOf NotBlank = 31
+numberOf TextMissing = 32
+numberOf TextIndented = 33
+numberOf NotEntityCode = 34
+numberOf UnknownState = 35
+numberOf BadZip = 36
+numberOf BadZipExtension = 37
+numberOf YearTooEarly = 38
+numberOf YearNotClosed = 39
+numberOf BadPeriod = 40
+numberOf PeriodNotClosed = 41
+numberOf YearNotOfA = 42
+numberOf PeriodNotOfA = 43
+numberOf FeinPrefix = 44
+numberOf FeinRepeated = 45
+numberOf FeinNotOfE = 46
+numberOf BadFlag = 47
+numberOf NoDate = 48
+numberOf DateOutsideQuarter = 49
+numberOf DateNotFinal = 50
+numberOf DateMissing = 51
+numberOf IdentityPrefix = 52
+numberOf IdentityRepeated = 53
+numberOf BadNameCharacter = 54
+numberOf CountNotOfS = 55
+numberOf NoneUnderE = 56
+numberOf WagesNotOfS = 57
+numberOf FileCountNotOfS = 58
+numberOf FileCountNotOfE = 59
+numberOf FileWagesNotOfS = 60
+numberOf TooManyS = 61
+numberOf IdTableFull = 62
+numberOf EmployerListFull = 63
+numberOf BadQuarter = 70
+numberOf WalkEnded = 71
+numberOf StateUnfit = 72
+numberOf NotToBeWritten = 80
+numberOf NoneToTotal = 81
+numberOf SumTooLarge = 82
+numberOf SliceLength = 83
+
+-- The column, and the number of the reason.
+abbrev pub findingOf : Edit → Finding
+findingOf Passed = fine
+findingOf (Broken column reason) = broken column (numberOf reason)
