@@ -7,9 +7,9 @@ use native.Mathlib.Nat.{not-suc-le-zero, le-of-suc-le-suc}
 use native.Mathlib.Omega.{arith}
 use lib.ListN.{length, getD, List·getD-append}
 use lib.Seq.{getD-append-add}
-use Rattle.codes.specs.Codes.{states, provinces, isCode, isAmong, placeOf}
+use Rattle.codes.specs.Codes.{states, provinces, isCode, isAmong, regionOf}
 use Rattle.codes.specs.Laws.{states-are-51, provinces-are-13}
-use Rattle.codes.specs.declared.Place.the-variants.{State, Province, Unknown}
+use Rattle.codes.specs.declared.Region.the-variants.{State, Province, Unknown}
 
 abbrev pub rows : List (List ℕ)
 rows = states ++ provinces
@@ -48,17 +48,17 @@ module _ (a b k : ℕ) where
   no-province passed h =
       none-among a b provinces (λ j below. rw (← row-province j) (passed (51 + j) (omega (arith, provinces-are-13))))
 
-  pub is-state : k < 51 → isCode a b (getD rows k []) ≡ true → State ≡ placeOf a b
-  unfolding placeOf
+  pub is-state : k < 51 → isCode a b (getD rows k []) ≡ true → State ≡ regionOf a b
+  unfolding regionOf
   is-state h t = rw (among-at a b states k (omega (arith, states-are-51)) (rw (← row-state k h) t))
 
-  pub is-province : Passed a b k → 51 ≤ k → k < 64 → isCode a b (getD rows k []) ≡ true → Province ≡ placeOf a b
-  unfolding placeOf
+  pub is-province : Passed a b k → 51 ≤ k → k < 64 → isCode a b (getD rows k []) ≡ true → Province ≡ regionOf a b
+  unfolding regionOf
   is-province passed h below t =
       let at : 51 + (k - 51) ≡ k = omega arith in
       let row : isCode a b (getD provinces (k - 51) []) ≡ true = rw (← row-province (k - 51), at) t in
       rw (no-state passed h, among-at a b provinces (k - 51) (omega (arith, provinces-are-13)) row)
 
-  pub is-unknown : Passed a b k → 64 ≤ k → Unknown ≡ placeOf a b
-  unfolding placeOf
+  pub is-unknown : Passed a b k → 64 ≤ k → Unknown ≡ regionOf a b
+  unfolding regionOf
   is-unknown passed h = rw (no-state passed (omega arith), no-province passed h)

@@ -6,8 +6,8 @@ use lib.Dec.{eqb}
 use lib.ListN.{getD}
 use Rattle.laws.specs.Choice.{if_then_else_}
 use Rattle.laws.specs.Text.{bytes}
-use Rattle.codes.specs.declared.Place.{Place}
-use Rattle.codes.specs.declared.Place.the-variants.{State, Province, Unknown}
+use Rattle.codes.specs.declared.Region.{Region}
+use Rattle.codes.specs.declared.Region.the-variants.{State, Province, Unknown}
 
 -- Codes of two letters, with a blank between each two.
 unfoldable pub codesIn : List ℕ → List (List ℕ)
@@ -34,5 +34,5 @@ isAmong a b [] = false
 isAmong a b (code ∷ codes) = isCode a b code || isAmong a b codes
 
 -- "one of the 64 codes of Appendix A, 50 states, DC and 13 provinces (35)"
-unfoldable pub placeOf : ℕ → ℕ → Place
-placeOf a b = if isAmong a b states then State else if isAmong a b provinces then Province else Unknown
+unfoldable pub regionOf : ℕ → ℕ → Region
+regionOf a b = if isAmong a b states then State else if isAmong a b provinces then Province else Unknown

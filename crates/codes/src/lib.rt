@@ -1,10 +1,10 @@
 // The two-letter codes of Appendix A: whether a code is a state's, a province's or unknown.
 ghost use mathlib.Core.Path.{_≡_};
 ghost use mathlib.Core.List.{_++_};
-ghost use Rattle.codes.specs.Codes.{states, provinces, isCode, placeOf};
+ghost use Rattle.codes.specs.Codes.{states, provinces, isCode, regionOf};
 
 // What a code stands for.
-pub enum Place {
+pub enum Region {
     State,
     Province,
     Unknown,
@@ -98,17 +98,17 @@ fn is_code(code: [u8; 2], a: u8, b: u8) -> bool
 }
 
 // What the two capitals a, b stand for.
-pub fn place_of(a: u8, b: u8) -> Place
-    ensures { λ r. ⌜ r ≡ placeOf a b ⌝ }
+pub fn region_of(a: u8, b: u8) -> Region
+    ensures { λ r. ⌜ r ≡ regionOf a b ⌝ }
 {
     let codes = all_codes();
     for k in 0..64 {
         if is_code(codes[k], a, b) {
             if k < STATES {
-                return Place::State;
+                return Region::State;
             }
-            return Place::Province;
+            return Region::Province;
         }
     }
-    Place::Unknown
+    Region::Unknown
 }

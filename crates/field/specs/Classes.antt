@@ -5,10 +5,10 @@ use mathlib.Core.List.{List, [], _∷_}
 use lib.ListN.{getD}
 use Rattle.laws.specs.Choice.{if_then_else_}
 use Rattle.laws.specs.Finding.{Finding, fine, orElse}
-use Rattle.field.specs.Columns.{everyColumn}
-use Rattle.field.specs.Text.{allBlank, requiredText, optionalText}
-use Rattle.field.specs.declared.columns.Allowed.{Allowed}
-use Rattle.field.specs.declared.columns.Allowed.the-variants.{Anything, Blanks, Digits, OfNames}
+use Rattle.chars.specs.Columns.{everyColumn}
+use Rattle.text.specs.Text.{allBlank, requiredText, optionalText}
+use Rattle.chars.specs.declared.columns.Allowed.{Allowed}
+use Rattle.chars.specs.declared.columns.Allowed.the-variants.{Anything, Blanks, Digits, OfNames}
 use Rattle.field.specs.declared.class.Class.{Class}
 use Rattle.field.specs.declared.class.Class.the-variants.{Ignored, RecordLetter, BlankSpace, Numeric, AccountNumber, Flag, ThirdQuarterFlag, Period, RequiredText, OptionalText, PersonName, EntityCode, StateCode, ZipCode, ZipExtension, TaxYear, EmployerFein, IdentityNumber, CeaseDate}
 

@@ -1,11 +1,1 @@
-pub mod Characters
-pub mod CharacterLaws
-pub mod Columns
-pub mod Numbers
-pub mod NumberLaws
-pub mod Text
-pub mod ColumnLaws
 pub mod Classes
-pub mod Places
-pub mod Rules
-pub mod Once

@@ -1,11 +1,10 @@
 // The classes of fields, and the class test of a field.
-use crate::columns;
-use crate::columns::Allowed;
-use crate::text;
+use chars::columns;
+use chars::columns::Allowed;
 use reason::Edit;
 ghost use mathlib.Core.Path.{_≡_};
 ghost use Rattle.reason.specs.Numbers.{findingOf};
-ghost use Rattle.field.specs.Characters.{capitals};
+ghost use Rattle.chars.specs.Characters.{capitals};
 ghost use Rattle.field.specs.Classes.{classOf, leadTest, allowedIn, classTest};
 
 // What a field is.

@@ -1,8 +1,2 @@
-// The tests of one field: a line, and the field's first and last column, at any record length.
-pub mod chars;
+// The classes of fields: a class, with a field's first and last column, says what the field is to hold, at any record length.
 pub mod class;
-pub mod columns;
-pub mod number;
-pub mod places;
-pub mod rules;
-pub mod text;

@@ -8,7 +8,7 @@ use lib.Dec.{T, eqb}
 use lib.ListN.{length, getD}
 use borrow.Author.Tests.{eqb-true}
 use Rattle.laws.specs.Choice.{if_then_else_}
-use Rattle.laws.specs.Finding.{Finding, fine, broken}
+use Rattle.laws.specs.Finding.{fine, broken}
 use Rattle.laws.specs.Table.{every, at}
 use Rattle.reason.specs.Numbers.{numberOf, findingOf}
 use Rattle.reason.specs.declared.Edit.{Edit}

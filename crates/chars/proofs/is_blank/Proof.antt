@@ -1,0 +1,12 @@
+-- `chars::is_blank` meets its contract.
+use mathlib.Core.Path.{refl}
+use Rattle.chars.specs.Characters.{isBlank}
+use Rattle.chars.proofs.is_blank.Statement.{statement}
+use Rattle.chars.proofs.is_blank.Tie as tie
+
+returns : tie.Need-returns
+unfolding isBlank
+returns c = refl
+
+pub is-blank-spec : {M : Type 1} → statement M
+is-blank-spec = tie.close (tie.spec returns)

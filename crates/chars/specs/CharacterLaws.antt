@@ -1,0 +1,49 @@
+-- The laws of characters that later layers cite.
+use Prim.Native.Nat.{ℕ, zero, suc, _-_, _≤_}
+use mathlib.Core.Path.{_≡_, refl, sym, _∙_}
+use mathlib.Core.Bool.{Bool, true, false, _&&_}
+use mathlib.Core.List.{List, [], _∷_}
+use native.Mathlib.Omega.{arith}
+use lib.Dec.{leb}
+use lib.ListN.{length, getD, drop, length-map, List·getD-map}
+use borrow.Author.Tests.{le-leb, lt-leb}
+use Rattle.laws.specs.Choice.{if_then_else_, within}
+use Rattle.chars.specs.Characters.{capitalOf, capitals, isDigit}
+
+-- A line read in capitals has each of its characters in capitals, and as many.
+pub capital-at : (line : List ℕ) (at : ℕ) → getD (capitals line) at 0 ≡ capitalOf (getD line at 0)
+unfolding capitals capitalOf
+capital-at line at = List·getD-map capitalOf line at 0
+
+pub capitals-length : (line : List ℕ) → length (capitals line) ≡ length line
+unfolding capitals
+capitals-length line = length-map line capitalOf
+
+pub capitals-drop : (n : ℕ) (line : List ℕ) → capitals (drop n line) ≡ drop n (capitals line)
+unfolding capitals
+capitals-drop zero line = refl
+capitals-drop (suc n) [] = refl
+capitals-drop (suc n) (c ∷ line) = capitals-drop n line
+
+pub digit-range : (c : ℕ) → isDigit c ≡ true → (48 ≤ c) × (c ≤ 57)
+unfolding isDigit
+digit-range c d = within 48 c 57 d
+
+-- A digit stays what it is in capitals, and nothing else becomes one.
+small-not-digit : (c : ℕ) → 65 ≤ c → isDigit c ≡ false
+unfolding isDigit
+small-not-digit c h = rw (le-leb 48 c (omega arith), lt-leb c 57 (omega arith))
+
+by-case : (c : ℕ) (t : Bool) → leb 97 c && leb c 122 ≡ t → isDigit (if t then c - 32 else c) ≡ isDigit c
+by-case c true e =
+    let w = within 97 c 122 e in
+    small-not-digit (c - 32) (omega arith) ∙ sym (small-not-digit c (omega arith))
+by-case c false e = refl
+
+pub capital-is-digit : (c : ℕ) → isDigit (capitalOf c) ≡ isDigit c
+unfolding capitalOf
+capital-is-digit c = by-case c (leb 97 c && leb c 122) refl
+
+pub capital-of-digit : (c : ℕ) → isDigit c ≡ true → capitalOf c ≡ c
+unfolding capitalOf
+capital-of-digit c d = let r = digit-range c d in rw (lt-leb 97 c (omega arith))

@@ -1,0 +1,16 @@
+-- `number::rules::may_be_filed` meets its contract.
+use borrow.Author.Tests.{eq-eqb, ne-eqb}
+use Rattle.number.specs.Rules.{mayBeFiled}
+use Rattle.number.proofs.rules.may_be_filed.Statement.{statement}
+use Rattle.number.proofs.rules.may_be_filed.Tie as tie
+
+returns : tie.Need-returns
+unfolding mayBeFiled
+returns c = rw (eq-eqb _ _ (c .if1 .taken))
+
+returns-2 : tie.Need-returns-2
+unfolding mayBeFiled
+returns-2 c = rw (ne-eqb _ _ (c .if1 .left))
+
+pub may-be-filed-spec : {M : Type 1} → statement M
+may-be-filed-spec = tie.close (tie.spec returns returns-2)

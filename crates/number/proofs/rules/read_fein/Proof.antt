@@ -1,0 +1,23 @@
+-- `number::rules::read_fein` meets its contract.
+use mathlib.Core.Path.{sym, ap, _∙_}
+use borrow.Author.Needs.{needs}
+use Rattle.number.specs.Rules.{feinIn}
+use Rattle.number.specs.Numbers.{readingOf}
+use Rattle.number.proofs.rules.read_fein.Statement.{statement}
+use Rattle.number.proofs.rules.read_fein.Tie as tie
+
+returns : tie.Need-returns
+unfolding feinIn
+returns c = rw (sym (c .before .before .read-number .ensures) ∙ ap readingOf (c .enum-told .given .1)) (ap readingOf (c .enum-told .given .1))
+
+returns-2 : tie.Need-returns-2
+unfolding feinIn
+returns-2 c = rw (sym (c .before .before .before .before .before .read-number .ensures) ∙ ap readingOf (c .before .before .before .n .given .1), sym (c .before .begins-with-69 .ensures) ∙ c .if1 .taken)
+
+returns-3 : tie.Need-returns-3
+unfolding feinIn
+returns-3 c = rw (sym (c .before .before .before .before .before .read-number .ensures) ∙ ap readingOf (c .before .before .before .n .given .1), sym (c .before .begins-with-69 .ensures) ∙ c .if1 .left)
+
+pub read-fein-spec : {M : Type 1} → statement M
+read-fein-spec =
+    tie.close (tie.spec (λ c κs. search needs) (λ c. search needs) (λ c. search needs) returns (λ c κs. search needs) returns-2 returns-3)

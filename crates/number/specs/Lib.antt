@@ -1,0 +1,4 @@
+pub mod Numbers
+pub mod NumberLaws
+pub mod Rules
+pub mod Once
