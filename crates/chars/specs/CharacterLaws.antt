@@ -1,5 +1,5 @@
 -- The laws of characters that later layers cite.
-use Prim.Native.Nat.{ℕ, zero, suc, _-_, _≤_}
+use Prim.Native.Nat.{ℕ, zero, suc, _+_, _-_, _<_, _≤_}
 use mathlib.Core.Path.{_≡_, refl, sym, _∙_}
 use mathlib.Core.Bool.{Bool, true, false, _&&_}
 use mathlib.Core.List.{List, [], _∷_}
@@ -28,6 +28,10 @@ capitals-drop (suc n) (c ∷ line) = capitals-drop n line
 pub digit-range : (c : ℕ) → isDigit c ≡ true → (48 ≤ c) × (c ≤ 57)
 unfolding isDigit
 digit-range c d = within 48 c 57 d
+
+pub digit-is : (d : ℕ) → d < 10 → isDigit (48 + d) ≡ true
+unfolding isDigit
+digit-is d h = rw (le-leb 48 (48 + d) (omega arith), le-leb (48 + d) 57 (omega arith))
 
 -- A digit stays what it is in capitals, and nothing else becomes one.
 small-not-digit : (c : ℕ) → 65 ≤ c → isDigit c ≡ false

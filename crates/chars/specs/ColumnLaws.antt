@@ -1,11 +1,26 @@
 -- The laws of columns, as a loop over a field's columns uses them.
 use Prim.Native.Nat.{ℕ, _+_, _-_}
-use mathlib.Core.Path.{_≡_}
+use mathlib.Core.Path.{_≡_, refl}
+use mathlib.Core.Bool.{Bool}
 use mathlib.Core.List.{List}
 use native.Mathlib.Omega.{arith}
-use Rattle.chars.specs.Columns.{allowedTest}
+use lib.ListN.{getD}
+use Rattle.laws.specs.Choice.{if_then_else_}
+use Rattle.laws.specs.Finding.{fine, broken, firstOf}
+use Rattle.chars.specs.Columns.{widthOf, columnTest, allowedTest, everyColumn}
 use Rattle.chars.specs.declared.columns.Allowed.{Allowed}
 
 -- The column behind a place stands at that place.
 pub column-of : (allowed : Allowed) (line : List ℕ) (at : ℕ) → allowedTest allowed line (at + 1 - 1) ≡ allowedTest allowed line at
 column-of allowed line at = let e : at + 1 - 1 ≡ at = omega arith in rw e
+
+-- What a column says, and what all of a field's columns say.
+pub column-says : (test : ℕ → Bool) (number : ℕ) (line : List ℕ) (at : ℕ)
+    → columnTest test number line at ≡ (if test (getD line at 0) then fine else broken (at + 1) number)
+unfolding columnTest
+column-says test number line at = refl
+
+pub every-says : (allowed : Allowed) (line : List ℕ) (first last : ℕ)
+    → everyColumn allowed line first last ≡ firstOf (allowedTest allowed line) (first - 1) (widthOf first last)
+unfolding everyColumn
+every-says allowed line first last = refl

@@ -10,11 +10,13 @@ use lib.ListN.{length, getD, set, length-set}
 use lib.Seq.{getD-set-same, getD-set-other}
 use borrow.Author.Tests.{lt-ltb, le-ltb, ne-eqb, le-leb}
 use Rattle.laws.specs.Choice.{if_then_else_}
-use Rattle.laws.specs.Finding.{Reading, value, refused}
+use Rattle.laws.specs.Finding.{Finding, fine, broken, orElse, firstOf, Reading, value, refused, findingIn}
 use Rattle.laws.specs.Steps.{left-suc, left-none}
 use Rattle.chars.specs.Characters.{capitals, isDigit}
-use Rattle.chars.specs.CharacterLaws.{capital-at, capital-is-digit, capital-of-digit, digit-range}
-use Rattle.chars.specs.Columns.{widthOf}
+use Rattle.chars.specs.CharacterLaws.{capital-at, capital-is-digit, capital-of-digit, digit-range, digit-is}
+use Rattle.chars.specs.Columns.{widthOf, allowedTest, everyColumn}
+use Rattle.chars.specs.ColumnLaws.{column-says, every-says}
+use Rattle.chars.specs.declared.columns.Allowed.the-variants.{Digits}
 use Rattle.number.specs.Numbers.{numberFrom, numberIn, putDigits, putNumber}
 
 -- ---- a loop's steps, at a place before `end`
@@ -130,10 +132,6 @@ number-last (suc n) line v at =
     ap (λ (x : Reading). if isDigit (getD line at 0) then x else refused (at + 1) 30) h
     ∙ rw p (sym (over-choice (oneMore line (at + suc n)) (isDigit (getD line at 0)) (numberFrom line (v * 10 + (getD line at 0 - 48)) (at + 1) n) (refused (at + 1) 30)))
 
-digit-is : (d : ℕ) → d < 10 → isDigit (48 + d) ≡ true
-unfolding isDigit
-digit-is d h = rw (le-leb 48 (48 + d) (omega arith), le-leb (48 + d) 57 (omega arith))
-
 from-read-back : (n : ℕ) (line : List ℕ) (from v : ℕ) → from + n ≤ length line → v < 10 ^ n
     → numberFrom (putDigits line (from + n) n v) 0 from n ≡ value v
 unfolding putDigits numberFrom
@@ -182,3 +180,23 @@ from-capitals (suc n) line v at =
 pub number-capitals : (line : List ℕ) (first last : ℕ) → numberIn (capitals line) first last ≡ numberIn line first last
 unfolding numberIn
 number-capitals line first last = rw (from-capitals (widthOf first last) line 0 (first - 1))
+
+-- ---- the class test and the reader
+over-digits : (t : Bool) (x : Reading) (rest : Finding) (at : ℕ) → findingIn x ≡ rest
+    → findingIn (if t then x else refused (at + 1) 30) ≡ orElse (if t then fine else broken (at + 1) 30) rest
+over-digits true x rest at e = e
+over-digits false x rest at e = refl
+
+from-digits : (n : ℕ) (line : List ℕ) (v at : ℕ) → findingIn (numberFrom line v at n) ≡ firstOf (allowedTest Digits line) at n
+unfolding numberFrom firstOf
+from-digits zero line v at = refl
+from-digits (suc n) line v at =
+    let c = getD line at 0 in
+    rw (column-says isDigit 30 line at)
+    (over-digits (isDigit c) (numberFrom line (v * 10 + (c - 48)) (at + 1) n) _ at (from-digits n line (v * 10 + (c - 48)) (at + 1)))
+
+-- The class test "all digits (30 at the first that is not)" finds what the reader finds.
+pub digits-read : (line : List ℕ) (first last : ℕ) → first - 1 < last → widthOf first last ≤ 19
+    → findingIn (numberIn line first last) ≡ everyColumn Digits line first last
+digits-read line first last h w =
+    ap findingIn (good-width line first last h w) ∙ from-digits (widthOf first last) line 0 (first - 1) ∙ sym (every-says Digits line first last)

@@ -95,7 +95,12 @@ fn more(test: u16, s: &[u8], a: u16, b: u16) {
     match test {
         50 => print::cut(s, a),
         51 => print::written(a, b, read(s, 1, 19)),
-        52 => print::edit(chars::columns::every_column(chars::columns::Allowed::Permitted, s, a, b)),
+        52 => print::edit(chars::columns::every_column(
+            chars::columns::Allowed::Permitted,
+            s,
+            a,
+            b,
+        )),
         _ => print::answer(99, 0, 0),
     }
 }

@@ -1,0 +1,146 @@
+-- The list of fields: "Columns and fields are the five tables of document 000".
+use Prim.Native.Nat.{ℕ, _-_}
+use mathlib.Core.List.{List, [], _∷_, _++_}
+use lib.ListN.{getD}
+use Rattle.field.specs.Classes.{classNumber}
+use Rattle.field.specs.declared.class.Class.{Class}
+use Rattle.field.specs.declared.class.Class.the-variants.{RecordLetter, BlankSpace, Numeric, AccountNumber, Flag, ThirdQuarterFlag, Period, RequiredText, OptionalText, PersonName, EntityCode, StateCode, ZipCode, ZipExtension, TaxYear, EmployerFein, IdentityNumber, CeaseDate}
+
+-- "the list of fields, class beside first and last column": a row has the class's number and the two columns.
+abbrev pub row : Class → ℕ → ℕ → List ℕ
+row class first last = classNumber class ∷ first ∷ last ∷ []
+
+abbrev pub classIn : List ℕ → ℕ
+classIn field = getD field 0 0
+
+abbrev pub firstIn : List ℕ → ℕ
+firstIn field = getD field 1 0
+
+abbrev pub lastIn : List ℕ → ℕ
+lastIn field = getD field 2 0
+
+-- How many columns a field has.
+abbrev pub widthIn : List ℕ → ℕ
+widthIn field = lastIn field - (firstIn field - 1)
+
+-- The five tables row by row: each row has the table's location, and behind it stands the table's name of the field.
+
+-- Transmitter (A) Record, "17 fields"
+unfoldable pub fieldsOfA : List (List ℕ)
+fieldsOfA =
+    row RecordLetter 1 1 ∷  -- Record Identifier
+    row TaxYear 2 5 ∷  -- Tax Year
+    row EmployerFein 6 14 ∷  -- Transmitter's Federal Employer ID #
+    row EntityCode 15 18 ∷  -- Taxing Entity Code
+    row Period 19 20 ∷  -- Period Covered
+    row BlankSpace 21 23 ∷  -- Blank Space
+    row RequiredText 24 73 ∷  -- Transmitter Name
+    row RequiredText 74 113 ∷  -- Transmitter Street Address
+    row RequiredText 114 138 ∷  -- Transmitter City
+    row StateCode 139 140 ∷  -- Transmitter State
+    row BlankSpace 141 153 ∷  -- Blank Space
+    row ZipCode 154 158 ∷  -- Transmitter ZIP Code
+    row ZipExtension 159 163 ∷  -- Transmitter ZIP Code Extension
+    row RequiredText 164 193 ∷  -- Transmitter Contact
+    row Numeric 194 203 ∷  -- Transmitter Contact Telephone Number
+    row OptionalText 204 207 ∷  -- Telephone Extension/Box
+    row BlankSpace 208 290 ∷  -- Blank Space
+    []
+
+-- Employer (E) Record, "28"
+unfoldable pub fieldsOfE : List (List ℕ)
+fieldsOfE =
+    row RecordLetter 1 1 ∷  -- Record Identifier
+    row TaxYear 2 5 ∷  -- Tax Year
+    row EmployerFein 6 14 ∷  -- Employer Federal Employer ID Number
+    row BlankSpace 15 23 ∷  -- Blank Space
+    row RequiredText 24 73 ∷  -- Employer Name
+    row RequiredText 74 113 ∷  -- Employer Street Address
+    row RequiredText 114 138 ∷  -- Employer City
+    row StateCode 139 140 ∷  -- Employer State
+    row BlankSpace 141 148 ∷  -- Blank Space
+    row ZipExtension 149 153 ∷  -- Zip Code Extension
+    row ZipCode 154 158 ∷  -- Zip Code
+    row BlankSpace 159 166 ∷  -- Blank Space
+    row EntityCode 167 170 ∷  -- Taxing Entity Code
+    row BlankSpace 171 172 ∷  -- Blank Space
+    row AccountNumber 173 182 ∷  -- MPL Account Number
+    row BlankSpace 183 186 ∷  -- Blank Space
+    row Flag 187 187 ∷  -- Amended Return
+    row Period 188 189 ∷  -- Period Covered
+    row Flag 190 190 ∷  -- No Wages
+    row ThirdQuarterFlag 191 191 ∷  -- Did you have at least 15 covered employees ..
+    row BlankSpace 192 200 ∷  -- Blank Space
+    row RequiredText 201 230 ∷  -- Employer Contact
+    row RequiredText 231 260 ∷  -- Employer Email
+    row Numeric 261 270 ∷  -- Employer Phone: type N decides, not "Required text"
+    row OptionalText 271 274 ∷  -- Employer Phone Ext.
+    row BlankSpace 275 281 ∷  -- Blank Space
+    row Flag 282 282 ∷  -- Is this your final return?
+    row CeaseDate 283 290 ∷  -- Cease Date
+    []
+
+-- Employee (S) Record, "12": 13 rows, since "S 46-51 is read as two, 46-47 and 48-51"
+unfoldable pub fieldsOfS : List (List ℕ)
+fieldsOfS =
+    row RecordLetter 1 1 ∷  -- Record Identifier
+    row IdentityNumber 2 10 ∷  -- Social Security Number / ITIN
+    row PersonName 11 30 ∷  -- Employee/Individual Last Name
+    row PersonName 31 42 ∷  -- Employee/Individual First Name
+    row BlankSpace 43 45 ∷  -- Blank Space
+    row Period 46 47 ∷  -- Reporting Quarter and Year: the quarter
+    row TaxYear 48 51 ∷  -- Reporting Quarter and Year: the year
+    row BlankSpace 52 63 ∷  -- Blank Space
+    row Numeric 64 77 ∷  -- Total Wages Paid This Quarter
+    row BlankSpace 78 142 ∷  -- Blank Space
+    row EntityCode 143 146 ∷  -- Taxing Entity Code
+    row Numeric 147 155 ∷  -- Employer's FEIN
+    row BlankSpace 156 290 ∷  -- Blank Space
+    []
+
+-- Total (T) Record, "7"
+unfoldable pub fieldsOfT : List (List ℕ)
+fieldsOfT =
+    row RecordLetter 1 1 ∷  -- Record Identifier
+    row Numeric 2 8 ∷  -- Total Number of S Records
+    row EntityCode 9 12 ∷  -- Taxing Entity Code
+    row Numeric 13 21 ∷  -- Employer's FEIN
+    row BlankSpace 22 26 ∷  -- Blank Space
+    row Numeric 27 40 ∷  -- Total Wages Paid This Quarter
+    row BlankSpace 41 290 ∷  -- Blank Space
+    []
+
+-- Final (F) Record, "7"
+unfoldable pub fieldsOfF : List (List ℕ)
+fieldsOfF =
+    row RecordLetter 1 1 ∷  -- Record Identifier
+    row Numeric 2 11 ∷  -- Total Number of S Records in File
+    row Numeric 12 21 ∷  -- Total Number of E Records in File
+    row EntityCode 22 25 ∷  -- Taxing Entity Code
+    row BlankSpace 26 40 ∷  -- Blank Space
+    row Numeric 41 55 ∷  -- Total Wages in File
+    row BlankSpace 56 290 ∷  -- Blank Space
+    []
+
+-- The records, counted from 0 in the order A, E, S, T, F.
+unfoldable pub records : List (List (List ℕ))
+records = fieldsOfA ∷ fieldsOfE ∷ fieldsOfS ∷ fieldsOfT ∷ fieldsOfF ∷ []
+
+-- The fields of a record; past the five records there is none.
+abbrev pub rowsOf : ℕ → List (List ℕ)
+rowsOf kind = getD records kind []
+
+-- "so 72 in all": the fields, counted from 0, record after record
+unfoldable pub fields : List (List ℕ)
+fields = fieldsOfA ++ fieldsOfE ++ fieldsOfS ++ fieldsOfT ++ fieldsOfF
+
+-- Past the list there is no field.
+abbrev pub noRow : List ℕ
+noRow = 0 ∷ 0 ∷ 0 ∷ []
+
+-- Where the fields of each record begin in the list. Past the five records, behind it.
+unfoldable pub starts : List ℕ
+starts = 0 ∷ 17 ∷ 45 ∷ 58 ∷ 65 ∷ []
+
+unfoldable pub firstField : ℕ → ℕ
+firstField kind = getD starts kind 72

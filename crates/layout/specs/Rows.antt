@@ -1,0 +1,75 @@
+-- Where the rows of each record stand in the list of all fields.
+use Prim.Native.Nat.{ℕ, zero, suc, _+_, _-_, _≤_, _<_}
+use mathlib.Core.Bool.{Bool, _&&_}
+use mathlib.Core.List.{List, [], _∷_, _++_}
+use mathlib.Core.Path.{_≡_, refl, sym, ap, _∙_}
+use native.Mathlib.Nat.{not-suc-le-zero, zero-add, add-assoc}
+use native.Mathlib.Omega.{arith}
+use lib.Dec.{T, eqb}
+use lib.ListN.{length, getD, List·getD-append}
+use lib.Seq.{getD-append-add}
+use borrow.Author.Tests.{eqb-true}
+use Rattle.laws.specs.Choice.{both-hold}
+use Rattle.laws.specs.Table.{every, at}
+use Rattle.layout.specs.Fields.{fieldsOfA, fieldsOfE, fieldsOfS, fieldsOfT, fieldsOfF, records, rowsOf, fields, starts, firstField}
+
+pub five-records : length records ≡ 5
+unfolding records
+five-records = refl
+
+pub five-starts : length starts ≡ 5
+unfolding starts
+five-starts = refl
+
+pub all-fields : length fields ≡ 72
+unfolding fields fieldsOfA fieldsOfE fieldsOfS fieldsOfT fieldsOfF
+all-fields = refl
+
+-- ---- lists of rows joined to one
+abbrev joined : List (List (List ℕ)) → List (List ℕ)
+joined [] = []
+joined (rows ∷ rest) = rows ++ joined rest
+
+-- how many rows stand before those of list `kind`
+abbrev ahead : List (List (List ℕ)) → ℕ → ℕ
+ahead [] kind = 0
+ahead (rows ∷ rest) zero = 0
+ahead (rows ∷ rest) (suc kind) = length rows + ahead rest kind
+
+joined-at : (lists : List (List (List ℕ))) (kind i : ℕ) → i < length (getD lists kind [])
+    → getD (joined lists) (ahead lists kind + i) [] ≡ getD (getD lists kind []) i []
+joined-at [] kind i h = absurd (not-suc-le-zero h)
+joined-at (rows ∷ rest) zero i h = rw zero-add (List·getD-append rows (joined rest) [] i h)
+joined-at (rows ∷ rest) (suc kind) i h =
+    rw (add-assoc, getD-append-add rows (joined rest) (ahead rest kind + i) []) (joined-at rest kind i h)
+
+-- ---- the five records
+is-joined : fields ≡ joined records
+unfolding fields records fieldsOfA fieldsOfE fieldsOfS fieldsOfT fieldsOfF
+is-joined = refl
+
+-- a record's first field stands behind the records before it, and the next record's behind its own fields
+inPlace : ℕ → List (List ℕ) → Bool
+inPlace kind rows = eqb (firstField kind) (ahead records kind) && eqb (firstField (suc kind)) (firstField kind + length rows)
+
+all-in-place : T (every inPlace [] 0 records)
+unfolding inPlace firstField starts records fieldsOfA fieldsOfE fieldsOfS fieldsOfT fieldsOfF
+all-in-place = tt
+
+module _ (kind : ℕ) (h : kind < 5) where
+  in-place : (firstField kind ≡ ahead records kind) × (firstField (suc kind) ≡ firstField kind + length (rowsOf kind))
+  unfolding inPlace
+  in-place =
+      let both = both-hold _ _ (at inPlace [] records all-in-place kind (rw five-records h)) in
+      (eqb-true _ _ (both .0), eqb-true _ _ (both .1))
+
+  module _ (k : ℕ) (low : firstField kind ≤ k) (high : k < firstField (suc kind)) where
+    -- A field of the record is a row of its table,
+    pub in-record : k - firstField kind < length (rowsOf kind)
+    in-record = omega (arith, in-place .1)
+
+    -- and stands as far behind the record's first field as in the table.
+    pub row-of-record : getD fields k [] ≡ getD (rowsOf kind) (k - firstField kind) []
+    row-of-record =
+        let here : ahead records kind + (k - firstField kind) ≡ k = omega (arith, in-place .0) in
+        rw is-joined (ap (λ (n : ℕ). getD (joined records) n []) (sym here) ∙ joined-at records kind (k - firstField kind) in-record)
