@@ -7,8 +7,10 @@ use native.Mathlib.Omega.{arith}
 use lib.ListN.{getD}
 use Rattle.laws.specs.Choice.{if_then_else_}
 use Rattle.laws.specs.Finding.{fine, broken, firstOf}
+use Rattle.laws.specs.First.{finds-nothing}
 use Rattle.chars.specs.Columns.{widthOf, columnTest, allowedTest, everyColumn}
 use Rattle.chars.specs.declared.columns.Allowed.{Allowed}
+use Rattle.chars.specs.declared.columns.Allowed.the-variants.{Anything}
 
 -- The column behind a place stands at that place.
 pub column-of : (allowed : Allowed) (line : List ℕ) (at : ℕ) → allowedTest allowed line (at + 1 - 1) ≡ allowedTest allowed line at
@@ -24,3 +26,8 @@ pub every-says : (allowed : Allowed) (line : List ℕ) (first last : ℕ)
     → everyColumn allowed line first last ≡ firstOf (allowedTest allowed line) (first - 1) (widthOf first last)
 unfolding everyColumn
 every-says allowed line first last = refl
+
+-- Columns that may hold anything are never broken.
+pub every-anything : (line : List ℕ) (first last : ℕ) → everyColumn Anything line first last ≡ fine
+unfolding everyColumn
+every-anything line first last = finds-nothing (allowedTest Anything line) (widthOf first last) (first - 1) (λ k h. refl)

@@ -82,3 +82,18 @@ module _ (edit : ℕ → Finding) where
   finds-nothing (suc n) i all =
       let here : edit i ≡ fine = rw (sym (add-zero i)) (all 0 (omega arith)) in
       rw here (finds-nothing n (i + 1) (λ k h. let p : i + 1 + k ≡ i + suc k = omega arith in rw p (all (suc k) (omega arith))))
+
+-- ---- the same edits, and edits counted from elsewhere
+pub first-same : (f g : ℕ → Finding) (n i : ℕ) → ((k : ℕ) → k < n → f (i + k) ≡ g (i + k)) → firstOf f i n ≡ firstOf g i n
+unfolding firstOf
+first-same f g zero i same = refl
+first-same f g (suc n) i same =
+    let here : f i ≡ g i = rw (sym (add-zero i)) (same 0 (omega arith)) in
+    let rest : firstOf f (i + 1) n ≡ firstOf g (i + 1) n =
+    first-same f g n (i + 1) (λ k h. let p : i + 1 + k ≡ i + suc k = omega arith in rw p (same (suc k) (omega arith))) in
+    rw (here, rest)
+
+pub first-shift : (f : ℕ → Finding) (n i : ℕ) → firstOf f (i + 1) n ≡ firstOf (λ k. f (k + 1)) i n
+unfolding firstOf
+first-shift f zero i = refl
+first-shift f (suc n) i = rw (first-shift f n (i + 1))

@@ -1,6 +1,7 @@
 pub mod Choice
 pub mod Finding
 pub mod First
+pub mod Lists
 pub mod Steps
 pub mod Table
 pub mod Text

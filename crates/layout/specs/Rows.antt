@@ -6,7 +6,7 @@ use mathlib.Core.Path.{_≡_, refl, sym, ap, _∙_}
 use native.Mathlib.Nat.{not-suc-le-zero, zero-add, add-assoc}
 use native.Mathlib.Omega.{arith}
 use lib.Dec.{T, eqb}
-use lib.ListN.{length, getD, List·getD-append}
+use lib.ListN.{length, getD, take, drop, List·getD-append}
 use lib.Seq.{getD-append-add}
 use borrow.Author.Tests.{eqb-true}
 use Rattle.laws.specs.Choice.{both-hold}
@@ -73,3 +73,24 @@ module _ (kind : ℕ) (h : kind < 5) where
     row-of-record =
         let here : ahead records kind + (k - firstField kind) ≡ k = omega (arith, in-place .0) in
         rw is-joined (ap (λ (n : ℕ). getD (joined records) n []) (sym here) ∙ joined-at records kind (k - firstField kind) in-record)
+
+-- ---- each record's part of the list
+pub part-of-A : take 17 (drop 0 fields) ≡ fieldsOfA
+unfolding fields fieldsOfA fieldsOfE fieldsOfS fieldsOfT fieldsOfF
+part-of-A = refl
+
+pub part-of-E : take 28 (drop 17 fields) ≡ fieldsOfE
+unfolding fields fieldsOfA fieldsOfE fieldsOfS fieldsOfT fieldsOfF
+part-of-E = refl
+
+pub part-of-S : take 13 (drop 45 fields) ≡ fieldsOfS
+unfolding fields fieldsOfA fieldsOfE fieldsOfS fieldsOfT fieldsOfF
+part-of-S = refl
+
+pub part-of-T : take 7 (drop 58 fields) ≡ fieldsOfT
+unfolding fields fieldsOfA fieldsOfE fieldsOfS fieldsOfT fieldsOfF
+part-of-T = refl
+
+pub part-of-F : take 7 (drop 65 fields) ≡ fieldsOfF
+unfolding fields fieldsOfA fieldsOfE fieldsOfS fieldsOfT fieldsOfF
+part-of-F = refl

@@ -3,7 +3,7 @@ use Prim.Native.Nat.{ℕ, _+_, min}
 use lib.Dec.{eqb}
 use lib.ListN.{length}
 use Rattle.laws.specs.Choice.{if_then_else_}
-use Rattle.laws.specs.Finding.{Reading, value, refused}
+use Rattle.laws.specs.Finding.{Finding, fine, broken, Reading, value, refused}
 use Rattle.reason.specs.Numbers.{numberOf}
 use Rattle.lines.specs.Lines.{Line, sizeOf}
 use Rattle.lines.specs.declared.Cut.{Cut}
@@ -20,6 +20,13 @@ cutting n line =
     if eqb (length (line .text)) n
     then (if eqb (length (line .ending)) 0 then refused (beyond n) 2 else value (sizeOf line))
     else refused (min (length (line .text) + 1) (beyond n)) 1
+
+-- The same as two edits: the length, then the end.
+unfoldable pub lengthTest : ℕ → Line → Finding
+lengthTest n line = if eqb (length (line .text)) n then fine else broken (min (length (line .text) + 1) (beyond n)) 1
+
+unfoldable pub endTest : ℕ → Line → Finding
+endTest n line = if eqb (length (line .ending)) 0 then broken (beyond n) 2 else fine
 
 -- What the code answers, in the paper's numbers.
 abbrev pub cutOf : Cut → Reading

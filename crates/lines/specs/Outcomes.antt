@@ -7,8 +7,8 @@ use borrow.Author.Tests.{eqb-true, eqb-false, eq-eqb, ne-eqb}
 use lib.Dec.{eqb}
 use lib.ListN.{length}
 use Rattle.laws.specs.Choice.{if_then_else_}
-use Rattle.laws.specs.Finding.{value, refused}
-use Rattle.lines.specs.Cutting.{beyond, cutting}
+use Rattle.laws.specs.Finding.{fine, broken, orElse, value, refused, findingIn}
+use Rattle.lines.specs.Cutting.{beyond, cutting, lengthTest, endTest}
 use Rattle.lines.specs.Lines.{Line, sizeOf}
 
 module _ (n : ℕ) (line : Line) where
@@ -58,3 +58,15 @@ taken-is-size n bytes line e = let is = taken n bytes line e in (is .0, is .1)
 -- "Each line has 290 characters and an end, the last one too."
 pub taken-has-end : (n bytes : ℕ) (line : Line) → cutting n line ≡ value bytes → 1 ≤ length (line .ending)
 taken-has-end n bytes line e = taken n bytes line e .2
+
+-- Cutting is two edits in order: the length, then the end.
+in-parts : (right missing : Bool) (size a b : ℕ)
+    → findingIn (if right then (if missing then refused b 2 else value size) else refused a 1)
+    ≡ orElse (if right then fine else broken a 1) (if missing then broken b 2 else fine)
+in-parts true true size a b = refl
+in-parts true false size a b = refl
+in-parts false missing size a b = refl
+
+pub cut-parts : (n : ℕ) (line : Line) → findingIn (cutting n line) ≡ orElse (lengthTest n line) (endTest n line)
+unfolding cutting lengthTest endTest
+cut-parts n line = in-parts (eqb (length (line .text)) n) (eqb (length (line .ending)) 0) (sizeOf line) (min (length (line .text) + 1) (beyond n)) (beyond n)

@@ -1,4 +1,5 @@
 pub mod Numbers
 pub mod NumberLaws
 pub mod Rules
+pub mod RuleLaws
 pub mod Once

@@ -28,6 +28,14 @@ numberIn line first last =
     then refused first 30
     else numberFrom line 0 (first - 1) (widthOf first last)
 
+abbrev pub valueOf : Reading → ℕ
+valueOf (value v) = v
+valueOf (refused column number) = 0
+
+-- The number that a field reads as, 0 where it reads as none.
+unfoldable pub valueIn : List ℕ → ℕ → ℕ → ℕ
+valueIn line first last = valueOf (numberIn line first last)
+
 -- v written into n places that end before place `end`, with zeros in front.
 unfoldable pub putDigits : List ℕ → ℕ → ℕ → ℕ → List ℕ
 putDigits line end zero v = line

@@ -5,7 +5,7 @@ use reason::Reason;
 ghost use mathlib.Core.Path.{_≡_};
 ghost use lib.ListN.{set};
 ghost use Rattle.chars.specs.Characters.{capitals};
-ghost use Rattle.number.specs.Numbers.{numberIn, putNumber, readingOf};
+ghost use Rattle.number.specs.Numbers.{numberIn, valueIn, putNumber, readingOf};
 
 // What a field reads as: a number, or the column and the reason of its refusal.
 pub enum Number {
@@ -42,6 +42,17 @@ pub fn read_number(line: &[u8], first: u16, last: u16) -> Number
         }
     }
     Number::Value(v)
+}
+
+// The number of a field, 0 where it reads as none.
+pub fn value_in(line: &[u8], first: u16, last: u16) -> u64
+    ensures { λ r. ⌜ r ≡ valueIn (capitals (now (line .entry))) first last ⌝ }
+{
+    let n = read_number(line, first, last);
+    match n {
+        Number::Value(v) => v,
+        Number::Refused(_, _) => 0,
+    }
 }
 
 // A character at a place of the line; behind its end there is none to write.

@@ -13,11 +13,15 @@ use Rattle.chars.specs.declared.columns.Allowed.the-variants.{Blanks}
 unfoldable pub allBlank : List ℕ → ℕ → ℕ → Bool
 allBlank line first last = isFine (everyColumn Blanks line first last)
 
+-- The field's first column is blank.
+unfoldable pub isIndented : List ℕ → ℕ → Bool
+isIndented line first = isBlank (getD line (first - 1) 0)
+
 -- "first column blank otherwise 33", behind what an all blank field gives
 unfoldable pub textTest : Finding → List ℕ → ℕ → ℕ → Finding
 textTest missing line first last =
     if allBlank line first last then missing else
-    if isBlank (getD line (first - 1) 0) then broken first 33 else
+    if isIndented line first then broken first 33 else
     fine
 
 -- "Required text: all blank 32; first column blank otherwise 33."

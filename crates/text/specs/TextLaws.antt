@@ -1,15 +1,18 @@
--- The laws of patterns, as a loop over a pattern's symbols uses them.
+-- The laws of text and of patterns.
 use Prim.Native.Nat.{ℕ, _+_, _<_, _≤_}
-use mathlib.Core.Path.{_≡_}
-use mathlib.Core.Bool.{true, false}
+use mathlib.Core.Path.{_≡_, refl}
+use mathlib.Core.Bool.{Bool, true, false, not, _||_}
 use mathlib.Core.List.{List}
 use native.Mathlib.Nat.{add-zero}
 use native.Mathlib.Numerals.{add-one}
 use lib.ListN.{length, getD, drop, drop-of-length-le}
 use lib.Seq.{drop-cons, drop-drop, getD-drop}
-use Rattle.text.specs.Text.{isAsked, readsAs}
+use Rattle.laws.specs.Choice.{if_then_else_}
+use Rattle.laws.specs.Finding.{fine, broken, orElse}
+use Rattle.chars.specs.Columns.{unless}
+use Rattle.text.specs.Text.{allBlank, isIndented, textTest, requiredText, optionalText, isAsked, readsAs}
 
--- From the symbol i on.
+-- ---- a pattern from the symbol i on
 module _ (text pattern : List ℕ) (i : ℕ) where
   pub pattern-done : length pattern ≤ i → readsAs (drop i text) (drop i pattern) ≡ true
   unfolding readsAs
@@ -27,3 +30,27 @@ module _ (text pattern : List ℕ) (i : ℕ) where
         → readsAs (drop i text) (drop i pattern) ≡ readsAs (drop (i + 1) text) (drop (i + 1) pattern)
     unfolding readsAs
     pattern-more d = rw (drop-cons pattern i 0 h, asked-here, d, drop-drop 1 i text, add-one i)
+
+-- ---- required and optional text, edit by edit
+required-tests : (blank indented : Bool) (first : ℕ)
+    → (if blank then broken first 32 else if indented then broken first 33 else fine) ≡ orElse (unless (not blank) first 32) (unless (not indented) first 33)
+required-tests true indented first = refl
+required-tests false true first = refl
+required-tests false false first = refl
+
+optional-tests : (blank indented : Bool) (first : ℕ)
+    → (if blank then fine else if indented then broken first 33 else fine) ≡ unless (blank || not indented) first 33
+optional-tests true indented first = refl
+optional-tests false true first = refl
+optional-tests false false first = refl
+
+module _ (line : List ℕ) (first last : ℕ) where
+  -- "Required text: all blank 32; first column blank otherwise 33."
+  pub required-parts : requiredText line first last ≡ orElse (unless (not (allBlank line first last)) first 32) (unless (not (isIndented line first)) first 33)
+  unfolding textTest
+  required-parts = required-tests (allBlank line first last) (isIndented line first) first
+
+  -- "Optional text: all blank passes; first column blank otherwise 33."
+  pub optional-parts : optionalText line first last ≡ unless (allBlank line first last || not (isIndented line first)) first 33
+  unfolding textTest
+  optional-parts = optional-tests (allBlank line first last) (isIndented line first) first

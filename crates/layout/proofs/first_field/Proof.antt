@@ -5,7 +5,7 @@ use lib.ListN.{length, List·getD-eq-default}
 use borrow.Author.Needs.{needs}
 use Rattle.layout.specs.Fields.{starts, firstField}
 use Rattle.layout.specs.Rows.{five-starts}
-use Rattle.layout.proofs.Defaults.{any-default}
+use Rattle.laws.specs.Lists.{any-default}
 use Rattle.layout.proofs.first_field.Statement.{statement}
 use Rattle.layout.proofs.first_field.Tie as tie
 

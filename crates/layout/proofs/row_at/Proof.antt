@@ -6,7 +6,7 @@ use lib.ListN.{length, List·getD-eq-default}
 use borrow.Author.Needs.{needs}
 use Rattle.layout.specs.Fields.{fields, noRow}
 use Rattle.layout.specs.Rows.{all-fields}
-use Rattle.layout.proofs.Defaults.{any-default}
+use Rattle.laws.specs.Lists.{any-default}
 use Rattle.layout.proofs.row_at.Statement.{statement}
 use Rattle.layout.proofs.row_at.Tie as tie
 

@@ -1,4 +1,4 @@
--- What stands in a list at a place within it does not depend on the default.
+-- The laws of lists that several crates cite: what stands in a list at a place within it does not depend on what is told past its end.
 use Prim.Native.Nat.{ℕ, zero, suc, _<_}
 use mathlib.Core.List.{List, [], _∷_}
 use mathlib.Core.Path.{_≡_, refl}

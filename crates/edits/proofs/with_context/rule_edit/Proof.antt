@@ -1,0 +1,34 @@
+-- `edits::with_context::rule_edit` meets its contract: in the arm of each rule, the match has told that rule.
+use borrow.Author.Needs.{needs}
+use Rattle.edits.specs.Edit.{firstBroken}
+use Rattle.edits.proofs.ShortLists.{of-one}
+use Rattle.edits.proofs.with_context.rule_edit.Statement.{statement}
+use Rattle.edits.proofs.with_context.rule_edit.Tie as tie
+
+returns : tie.Need-returns
+unfolding firstBroken
+returns c = rw (c .enum-told .given .1)
+
+pub rule-edit-spec : {M : Type 1} → statement M
+rule-edit-spec =
+    tie.close
+    (tie.spec
+    (λ c. search needs) (λ c. search needs) (λ c κs. search needs) (λ c. search needs) (λ c κs. search needs) (λ c κs. search needs)
+    (λ c κs. search needs) (λ c. search needs) (λ c κs. search needs) (λ c. search needs) (λ c κs. search needs) (λ c. search needs)
+    (λ c κs. search needs) (λ c. search needs) (λ c κs. search needs) (λ c. search needs) (λ c κs. search needs) (λ c κs. search needs)
+    (λ c. search needs) (λ c κs. search needs) (λ c. search needs) (λ c κs. search needs) (λ c. search needs) (λ c κs. search needs)
+    (λ c. search needs) (λ c κs. search needs) (λ c. search needs) (λ c κs. search needs) (λ c. search needs) (λ c κs. search needs)
+    returns (λ c. rw (c .before .before .enum-told2 .given .1, of-one _) (c .unless .ensures))
+    (λ c. let told = c .before .before .before in
+    rw (told .enum-told3 .given .1, of-one _, ← c .before .before .quarter-on .ensures, ← c .before .is-after .ensures) (c .unless2 .ensures))
+    (λ c. rw (c .before .before .enum-told4 .given .1, of-one _) (c .unless3 .ensures))
+    (λ c. rw (c .before .before .enum-told5 .given .1, of-one _) (c .unless4 .ensures))
+    (λ c. rw (c .before .enum-told6 .given .1) (c .fein-new .ensures))
+    (λ c. rw (c .before .before .enum-told7 .given .1, of-one _) (c .unless5 .ensures))
+    (λ c. rw (c .before .before .enum-told8 .given .1, ← c .before .is-final .ensures) (c .date-in-quarter .ensures))
+    (λ c. rw (c .before .enum-told9 .given .1) (c .identity-new .ensures))
+    (λ c. rw (c .before .enum-told10 .given .1) (c .count-of-s .ensures))
+    (λ c. rw (c .before .before .enum-told11 .given .1, of-one _) (c .unless6 .ensures))
+    (λ c. rw (c .before .before .enum-told12 .given .1, of-one _) (c .unless7 .ensures))
+    (λ c. rw (c .before .before .enum-told13 .given .1, of-one _) (c .unless8 .ensures))
+    (λ c. rw (c .before .before .enum-told14 .given .1, of-one _) (c .unless9 .ensures)))

@@ -1,0 +1,31 @@
+-- An edit, and the first broken one of a list.
+use Prim.Native.Nat.{ℕ}
+use mathlib.Core.Bool.{Bool}
+use mathlib.Core.List.{List, [], _∷_}
+use mathlib.Core.Path.{_≡_}
+use Rattle.laws.specs.Finding.{Finding, fine, orElse}
+use Rattle.chars.specs.Columns.{everyColumn, unless}
+use Rattle.chars.specs.declared.columns.Allowed.{Allowed}
+
+-- The paper's number, the first column of what the edit looks at, and what it finds in a line.
+pub record Edit : Type 0 where
+  pub number : ℕ
+  pub first : ℕ
+  pub finds : Finding
+
+-- Said of one edit alone, whatever stands before it.
+abbrev pub Broken : Edit → Type 0
+Broken edit = edit .finds ≡ fine → ⊥
+
+-- "other field refusals give the field's first column"
+abbrev pub rule : ℕ → ℕ → Bool → Edit
+rule number first passes = record { number = number; first = first; finds = unless passes first number }
+
+-- "A column named 'at the first' is that column"
+abbrev pub eachColumn : ℕ → Allowed → List ℕ → ℕ → ℕ → Edit
+eachColumn number allowed line first last = record { number = number; first = first; finds = everyColumn allowed line first last }
+
+-- The first broken edit of a list in the stated order.
+unfoldable pub firstBroken : List Edit → Finding
+firstBroken [] = fine
+firstBroken (edit ∷ edits) = orElse (edit .finds) (firstBroken edits)

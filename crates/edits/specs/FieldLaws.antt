@@ -1,0 +1,26 @@
+-- The laws of a field among others, as a loop over a record's fields uses them.
+use Prim.Native.Nat.{ℕ}
+use mathlib.Core.Path.{_≡_}
+use mathlib.Core.List.{List}
+use lib.ListN.{getD}
+use Rattle.laws.specs.Finding.{Finding, fine, broken}
+use Rattle.field.specs.Classes.{classOf, classTest}
+use Rattle.field.specs.declared.class.Class.{Class}
+use Rattle.edits.specs.Fields.{ruleOf, noRow, Around, rulesTest, fieldTest, fieldAt}
+use Rattle.edits.specs.declared.Rule.{Rule}
+
+-- Field k, by its row and its class.
+module _ (a : Around) (line : List ℕ) (rows : List (List ℕ)) (rules : List ℕ) (k : ℕ) (row : List ℕ) (class : Class)
+    (here : row ≡ getD rows k noRow) (named : class ≡ classOf (getD row 0 0)) where
+  -- A field whose class test is broken is broken there.
+  pub class-breaks : (column number : ℕ) → classTest class line (getD row 1 0) (getD row 2 0) ≡ broken column number
+      → fieldAt a line rows rules k ≡ broken column number
+  unfolding fieldAt fieldTest
+  class-breaks column number hit = rw (← here, ← named, hit)
+
+  -- A field that passes its class test says what its rules say.
+  pub class-passes : (which : Rule) (finding : Finding) → classTest class line (getD row 1 0) (getD row 2 0) ≡ fine
+      → which ≡ ruleOf (getD rules k 0) → finding ≡ rulesTest a line class which (getD row 1 0) (getD row 2 0)
+      → fieldAt a line rows rules k ≡ finding
+  unfolding fieldAt fieldTest
+  class-passes which finding passed ruled found = rw (← here, ← named, passed, ← ruled, ← found)

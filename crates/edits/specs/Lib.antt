@@ -1,0 +1,9 @@
+pub mod Edit
+pub mod EditLaws
+pub mod Own
+pub mod WithContext
+pub mod Fields
+pub mod FieldLaws
+pub mod Parts
+pub mod Lists
+pub mod ListLaws

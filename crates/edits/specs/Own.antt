@@ -1,0 +1,73 @@
+-- The edits of a field by itself and by other fields of the same record: what the paper asks of it whatever stands on other lines.
+use Prim.Native.Nat.{ℕ}
+use mathlib.Core.Bool.{Bool, not, _&&_, _||_}
+use mathlib.Core.List.{List, [], _∷_, _++_}
+use lib.Dec.{eqb}
+use Rattle.laws.specs.Choice.{if_then_else_}
+use Rattle.laws.specs.Finding.{fine, findingIn}
+use Rattle.calendar.specs.Dates.{isDate}
+use Rattle.calendar.specs.Quarters.{isFilingYear}
+use Rattle.chars.specs.declared.columns.Allowed.the-variants.{Blanks, Digits, OfNames}
+use Rattle.chars.specs.Columns.{everyColumn}
+use Rattle.number.specs.Numbers.{valueIn}
+use Rattle.number.specs.Rules.{periodIn, flagIn, beginsWith69, mayBeFiled}
+use Rattle.text.specs.Text.{allBlank, isIndented, entityTest}
+use Rattle.text.specs.Address.{regionIn, stateTest, zipTest, extensionTest}
+use Rattle.field.specs.declared.class.Class.{Class}
+use Rattle.field.specs.declared.class.Class.the-variants.{Ignored, RecordLetter, BlankSpace, Numeric, AccountNumber, Flag, ThirdQuarterFlag, Period, RequiredText, OptionalText, PersonName, EntityCode, StateCode, ZipCode, ZipExtension, TaxYear, EmployerFein, IdentityNumber, CeaseDate}
+use Rattle.edits.specs.Edit.{Edit, rule, eachColumn}
+use Rattle.edits.specs.declared.Marks.{Marks}
+
+-- "E flags: 0 or 1 (47)"
+abbrev pub flagEdit : List ℕ → ℕ → Edit
+flagEdit line first = record { number = 47; first = first; finds = findingIn (flagIn line first) }
+
+-- "191 is tested only in period 09 (Appendix D); otherwise any character passes."
+abbrev pub thirdQuarterEdit : Marks → List ℕ → ℕ → Edit
+thirdQuarterEdit marks line first =
+    record {
+      number = 47;
+      first = first;
+      finds = if eqb (valueIn line (marks .«period_first») (marks .«period_last»)) 9 then findingIn (flagIn line first) else fine;
+    }
+
+-- "Number .. all digits (30 at the first that is not)"
+abbrev pub digitsEdit : List ℕ → ℕ → ℕ → Edit
+digitsEdit line first last = eachColumn 30 Digits line first last
+
+-- "Required text: all blank 32; first column blank otherwise 33."
+abbrev pub requiredEdits : List ℕ → ℕ → ℕ → List Edit
+requiredEdits line first last = rule 32 first (not (allBlank line first last)) ∷ rule 33 first (not (isIndented line first)) ∷ []
+
+-- E cease date: "with 282 at 0, not all zeros 50. With 1: zeros 51, no calendar date 48"
+abbrev pub ceaseEdits : Bool → ℕ → ℕ → List Edit
+ceaseEdits final date first =
+    rule 50 first (final || eqb date 0) ∷ rule 51 first (not (final && eqb date 0)) ∷ rule 48 first (not final || isDate date) ∷ []
+
+-- Whether the return is the final one: 282 is not 0.
+abbrev pub isFinal : Marks → List ℕ → Bool
+isFinal marks line = not (eqb (valueIn line (marks .«final_flag») (marks .«final_flag»)) 0)
+
+-- The own edits of a field, by its class.
+abbrev pub own : Marks → List ℕ → Class → List ℕ → ℕ → ℕ → List Edit
+own marks code Ignored line first last = []
+own marks code RecordLetter line first last = []
+own marks code BlankSpace line first last = eachColumn 31 Blanks line first last ∷ []
+own marks code Numeric line first last = digitsEdit line first last ∷ []
+own marks code AccountNumber line first last =
+    record { number = 30; first = first; finds = if allBlank line first last then fine else everyColumn Digits line first last } ∷ []
+own marks code Flag line first last = flagEdit line first ∷ []
+own marks code ThirdQuarterFlag line first last = thirdQuarterEdit marks line first ∷ []
+own marks code Period line first last = record { number = 40; first = first; finds = findingIn (periodIn line first last) } ∷ []
+own marks code RequiredText line first last = requiredEdits line first last
+own marks code OptionalText line first last = rule 33 first (allBlank line first last || not (isIndented line first)) ∷ []
+own marks code PersonName line first last = requiredEdits line first last ++ (eachColumn 54 OfNames line first last ∷ [])
+own marks code EntityCode line first last = record { number = 34; first = first; finds = entityTest code line first } ∷ []
+own marks code StateCode line first last = record { number = 35; first = first; finds = stateTest (regionIn line first) first } ∷ []
+own marks code ZipCode line first last = record { number = 36; first = first; finds = zipTest (regionIn line (marks .state)) line first } ∷ []
+own marks code ZipExtension line first last =
+    record { number = 37; first = first; finds = extensionTest (regionIn line (marks .state)) line first } ∷ []
+own marks code TaxYear line first last = digitsEdit line first last ∷ rule 38 first (isFilingYear (valueIn line first last)) ∷ []
+own marks code EmployerFein line first last = digitsEdit line first last ∷ rule 44 first (not (beginsWith69 (valueIn line first last))) ∷ []
+own marks code IdentityNumber line first last = digitsEdit line first last ∷ rule 52 first (mayBeFiled (valueIn line first last)) ∷ []
+own marks code CeaseDate line first last = digitsEdit line first last ∷ ceaseEdits (isFinal marks line) (valueIn line first last) first

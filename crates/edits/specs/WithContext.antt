@@ -1,0 +1,67 @@
+-- The edits of a field that look at other records, at the quarter held or at the room that is left.
+use Prim.Native.Nat.{ℕ}
+use mathlib.Core.Bool.{Bool, not, _&&_, _||_}
+use mathlib.Core.List.{List, [], _∷_}
+use lib.Dec.{eqb, leb}
+use Rattle.calendar.specs.Dates.{inQuarter}
+use Rattle.calendar.specs.Quarters.{isAfter}
+use Rattle.calendar.specs.declared.Quarter.{Quarter}
+use Rattle.number.specs.Numbers.{valueIn}
+use Rattle.edits.specs.Edit.{Edit, rule}
+use Rattle.edits.specs.Own.{isFinal}
+use Rattle.edits.specs.declared.Context.{Context}
+use Rattle.edits.specs.declared.Marks.{Marks}
+use Rattle.edits.specs.declared.Seen.{Seen}
+use Rattle.edits.specs.declared.Rule.{Rule}
+use Rattle.edits.specs.declared.Rule.the-variants.{Nothing, YearClosed, QuarterClosed, YearOfA, PeriodOfA, FeinNew, FeinOfE, DateInQuarter, IdentityNew, CountOfS, WagesOfS, FileCountOfS, FileCountOfE, FileWagesOfS}
+
+-- The year and the period of the record.
+abbrev pub quarterOn : Marks → List ℕ → Quarter
+quarterOn marks line =
+    record {
+      year = valueIn line (marks .«year_first») (marks .«year_last»);
+      month = valueIn line (marks .«period_first») (marks .«period_last»);
+    }
+
+-- "E: on an earlier E 45, then list full 63."
+abbrev pub feinNew : Bool → Bool → ℕ → List Edit
+feinNew seen full first = rule 45 first (not seen) ∷ rule 63 first (not full) ∷ []
+
+-- "000000000 means applied for and may repeat. Another number: already under this E 53, then id table full 62; only such numbers take room."
+abbrev pub identityNew : ℕ → Bool → Bool → ℕ → List Edit
+identityNew v seen full first = rule 53 first (eqb v 0 || not seen) ∷ rule 62 first (eqb v 0 || not full) ∷ []
+
+-- "T: count is not that of S records since E 55; none though E says 1 56, column 2 too;"
+abbrev pub countOfS : ℕ → ℕ → Bool → ℕ → List Edit
+countOfS v count follow first = rule 55 first (eqb v count) ∷ rule 56 first (not (eqb count 0 && follow)) ∷ []
+
+-- "outside A's quarter 49", of a final return
+abbrev pub dateInQuarter : Bool → ℕ → Quarter → ℕ → List Edit
+dateInQuarter final v filed first = rule 49 first (not final || inQuarter v filed) ∷ []
+
+-- The edits of a rule, in order; v is the field's value.
+abbrev pub ruleEdits : Rule → Marks → Context → Seen → List ℕ → ℕ → ℕ → List Edit
+ruleEdits Nothing marks around seen line first v = []
+-- "A: above the last closed year 39."
+ruleEdits YearClosed marks around seen line first v = rule 39 first (leb v (around .held .year)) ∷ []
+-- "A: after the last closed quarter 41."
+ruleEdits QuarterClosed marks around seen line first v = rule 41 first (not (isAfter (quarterOn marks line) (around .held))) ∷ []
+-- "E and S: not A's 42."
+ruleEdits YearOfA marks around seen line first v = rule 42 first (eqb v (around .filed .year)) ∷ []
+-- "E and S: not A's 43."
+ruleEdits PeriodOfA marks around seen line first v = rule 43 first (eqb v (around .filed .month)) ∷ []
+ruleEdits FeinNew marks around seen line first v = feinNew (seen .fein) (around .«list_full») first
+-- "S and T: not the open E's 46."
+ruleEdits FeinOfE marks around seen line first v = rule 46 first (eqb v (around .open .fein)) ∷ []
+ruleEdits DateInQuarter marks around seen line first v = dateInQuarter (isFinal marks line) v (around .filed) first
+ruleEdits IdentityNew marks around seen line first v = identityNew v (seen .id) (around .«ids_full») first
+ruleEdits CountOfS marks around seen line first v = countOfS v (around .open .count) (around .open .follow) first
+-- "wages are not their sum 57."
+ruleEdits WagesOfS marks around seen line first v = rule 57 first (eqb v (around .open .sum)) ∷ []
+-- "F: S count 58, E count 59, wages 60."
+ruleEdits FileCountOfS marks around seen line first v = rule 58 first (eqb v (around .all .count)) ∷ []
+ruleEdits FileCountOfE marks around seen line first v = rule 59 first (eqb v (around .all .employers)) ∷ []
+ruleEdits FileWagesOfS marks around seen line first v = rule 60 first (eqb v (around .all .sum)) ∷ []
+
+abbrev pub withContext : Rule → Marks → Context → Seen → List ℕ → ℕ → ℕ → List Edit
+withContext which marks around seen line first last = ruleEdits which marks around seen line first (valueIn line first last)

@@ -1,0 +1,125 @@
+// The fields of a record in order: the first broken column of the first broken field.
+use crate::Context;
+use crate::Marks;
+use crate::Rule;
+use crate::Seen;
+use crate::own;
+use crate::with_context;
+use chars::columns;
+use field::class;
+use field::class::Class;
+use reason::Edit;
+ghost use mathlib.Core.Path.{_≡_};
+ghost use lib.ListN.{getD};
+ghost use Rattle.reason.specs.Numbers.{findingOf};
+ghost use Rattle.chars.specs.Characters.{capitals};
+ghost use Rattle.edits.specs.Fields.{ruleOf, noRow, rulesTest, fieldsTest};
+
+// The rule of a number.
+pub fn rule_of(number: u8) -> Rule
+    ensures { λ r. ⌜ r ≡ ruleOf number ⌝ }
+{
+    match number {
+        1 => Rule::YearClosed,
+        2 => Rule::QuarterClosed,
+        3 => Rule::YearOfA,
+        4 => Rule::PeriodOfA,
+        5 => Rule::FeinNew,
+        6 => Rule::FeinOfE,
+        7 => Rule::DateInQuarter,
+        8 => Rule::IdentityNew,
+        9 => Rule::CountOfS,
+        10 => Rule::WagesOfS,
+        11 => Rule::FileCountOfS,
+        12 => Rule::FileCountOfE,
+        13 => Rule::FileWagesOfS,
+        _ => Rule::Nothing,
+    }
+}
+
+// A number of a list, 0 past its end.
+fn number_at(numbers: &[u8], k: usize) -> u8
+    ensures { λ r. ⌜ r ≡ getD (now (numbers .entry)) k 0 ⌝ }
+{
+    if k < numbers.len() {
+        return numbers[k];
+    }
+    0
+}
+
+// A row of a list, a field of no columns past its end.
+fn row_at(rows: &[[u16; 3]], k: usize) -> [u16; 3]
+    ensures { λ r. ⌜ r ≡ getD (now (rows .entry)) k noRow ⌝ }
+{
+    if k < rows.len() {
+        return rows[k];
+    }
+    [0, 0, 0]
+}
+
+// The rules of a field behind its class test: its own, then those of the context.
+fn rules_edit(
+    marks: Marks,
+    code: [u8; 4],
+    around: Context,
+    seen: Seen,
+    line: &[u8],
+    class: Class,
+    rule: Rule,
+    first: u16,
+    last: u16,
+) -> Edit
+    ensures { λ r. ⌜ findingOf r ≡ rulesTest (record { marks = marks; code = code; here = around; seen = seen }) (capitals (now (line .entry))) class rule first last ⌝ }
+{
+    let e = own::own_edit(marks, code, class, line, first, last);
+    match e {
+        Edit::Broken(_, _) => e,
+        Edit::Passed => with_context::context_edit(rule, marks, around, seen, line, first, last),
+    }
+}
+
+// The first broken column of the first broken field. A row of the list has a field's class, first and last column; the rule beside it, by number,
+// is that of its context.
+pub fn first_broken(
+    marks: Marks,
+    code: [u8; 4],
+    around: Context,
+    seen: Seen,
+    line: &[u8],
+    rows: &[[u16; 3]],
+    rules: &[u8],
+) -> Edit
+    ensures { λ r. ⌜ findingOf r ≡ fieldsTest (record { marks = marks; code = code; here = around; seen = seen }) (capitals (now (line .entry))) (now (rows .entry)) (now (rules .entry)) ⌝ }
+{
+    let mut found = Edit::Passed;
+    let mut k = 0;
+    'fields: while k < rows.len() {
+        let row = row_at(rows, k);
+        let class = class::class_of(row[0]);
+        let first = row[1];
+        let last = row[2];
+        let lead = class::lead_edit(class, line, first, last);
+        if let Edit::Broken(_, _) = lead {
+            found = lead;
+            break 'fields;
+        }
+        let allowed = class::allowed_in(class, line, first, last);
+        let mut at = chars::index_of(first);
+        while at < last {
+            let e = columns::column_edit(allowed, line, at + 1);
+            if let Edit::Broken(_, _) = e {
+                found = e;
+                break 'fields;
+            }
+            at += 1;
+        }
+        let rule = rule_of(number_at(rules, k));
+        let e = rules_edit(marks, code, around, seen, line, class, rule, first, last);
+        if let Edit::Broken(_, _) = e {
+            found = e;
+            break 'fields;
+        }
+        k += 1;
+    }
+    found
+}

@@ -1,0 +1,77 @@
+// The edits of the fields of one record, given what they depend on besides the record's own bytes.
+pub mod fields;
+pub mod own;
+pub mod with_context;
+
+use calendar::Quarter;
+
+// Where a line stands: before A; after A, before any E; under an E; after a T; after F.
+pub enum Phase {
+    BeforeA,
+    AfterA,
+    EOpen,
+    AfterT,
+    AfterF,
+}
+
+// The open E: its FEIN, whether it says that S records follow, and the S records under it with the sum of their wages in cents.
+pub struct Open {
+    pub fein: u64,
+    pub follow: bool,
+    pub count: u64,
+    pub sum: u64,
+}
+
+// The whole file so far: its S records, its E records, and the sum of all wages in cents.
+pub struct Totals {
+    pub count: u64,
+    pub employers: u64,
+    pub sum: u64,
+}
+
+// All that a line's edits depend on besides its own bytes, but for what was seen.
+pub struct Context {
+    pub phase: Phase,
+    // The last closed quarter, and A's.
+    pub held: Quarter,
+    pub filed: Quarter,
+    pub open: Open,
+    pub all: Totals,
+    // No room is left for an id, or for an employer.
+    pub ids_full: bool,
+    pub list_full: bool,
+}
+
+// Whether the FEIN on the line stands on an earlier E, and whether the identity number on it stands under the open E.
+pub struct Seen {
+    pub fein: bool,
+    pub id: bool,
+}
+
+// The columns of a record that the rules of its other fields look at; 0 where it has no such field.
+pub struct Marks {
+    pub year_first: u16,
+    pub year_last: u16,
+    pub period_first: u16,
+    pub period_last: u16,
+    pub state: u16,
+    pub final_flag: u16,
+}
+
+// The rule by which a field is held against its context.
+pub enum Rule {
+    Nothing,
+    YearClosed,
+    QuarterClosed,
+    YearOfA,
+    PeriodOfA,
+    FeinNew,
+    FeinOfE,
+    DateInQuarter,
+    IdentityNew,
+    CountOfS,
+    WagesOfS,
+    FileCountOfS,
+    FileCountOfE,
+    FileWagesOfS,
+}

@@ -1,0 +1,132 @@
+// The rules of a field that look at other records, at the quarter held or at the room that is left.
+use crate::Context;
+use crate::Marks;
+use crate::Rule;
+use crate::Seen;
+use crate::own;
+use calendar::Quarter;
+use reason::Edit;
+use reason::Reason;
+ghost use mathlib.Core.Path.{_≡_};
+ghost use Rattle.reason.specs.Numbers.{findingOf};
+ghost use Rattle.chars.specs.Characters.{capitals};
+ghost use Rattle.edits.specs.Edit.{firstBroken};
+ghost use Rattle.edits.specs.WithContext.{quarterOn, feinNew, identityNew, countOfS, dateInQuarter, ruleEdits, withContext};
+
+// The year and the period of the record.
+fn quarter_on(marks: Marks, line: &[u8]) -> Quarter
+    ensures { λ r. ⌜ r ≡ quarterOn marks (capitals (now (line .entry))) ⌝ }
+{
+    Quarter {
+        year: number::value_in(line, marks.year_first, marks.year_last),
+        month: number::value_in(line, marks.period_first, marks.period_last),
+    }
+}
+
+fn fein_new(seen: bool, full: bool, first: u16) -> Edit
+    ensures { λ r. ⌜ findingOf r ≡ firstBroken (feinNew seen full first) ⌝ }
+{
+    if seen {
+        return Edit::Broken(first, Reason::FeinRepeated);
+    }
+    own::unless(!full, first, Reason::EmployerListFull)
+}
+
+fn identity_new(v: u64, seen: bool, full: bool, first: u16) -> Edit
+    ensures { λ r. ⌜ findingOf r ≡ firstBroken (identityNew v seen full first) ⌝ }
+{
+    if v == 0 {
+        return Edit::Passed;
+    }
+    if seen {
+        return Edit::Broken(first, Reason::IdentityRepeated);
+    }
+    own::unless(!full, first, Reason::IdTableFull)
+}
+
+fn count_of_s(v: u64, count: u64, follow: bool, first: u16) -> Edit
+    ensures { λ r. ⌜ findingOf r ≡ firstBroken (countOfS v count follow first) ⌝ }
+{
+    if v != count {
+        return Edit::Broken(first, Reason::CountNotOfS);
+    }
+    if count == 0 {
+        return own::unless(!follow, first, Reason::NoneUnderE);
+    }
+    Edit::Passed
+}
+
+// In a final return the cease date lies in A's quarter.
+fn date_in_quarter(last_return: bool, v: u64, filed: Quarter, first: u16) -> Edit
+    ensures { λ r. ⌜ findingOf r ≡ firstBroken (dateInQuarter «last_return» v filed first) ⌝ }
+{
+    if last_return {
+        return own::unless(
+            calendar::in_quarter(v, filed),
+            first,
+            Reason::DateOutsideQuarter,
+        );
+    }
+    Edit::Passed
+}
+
+// The edits of a rule in order; v is the field's value.
+fn rule_edit(
+    rule: Rule,
+    marks: Marks,
+    around: Context,
+    seen: Seen,
+    line: &[u8],
+    first: u16,
+    v: u64,
+) -> Edit
+    ensures { λ r. ⌜ findingOf r ≡ firstBroken (ruleEdits rule marks around seen (capitals (now (line .entry))) first v) ⌝ }
+{
+    let held = around.held;
+    let filed = around.filed;
+    let open = around.open;
+    let all = around.all;
+    match rule {
+        Rule::Nothing => Edit::Passed,
+        Rule::YearClosed => own::unless(v <= held.year, first, Reason::YearNotClosed),
+        Rule::QuarterClosed => own::unless(
+            !calendar::is_after(quarter_on(marks, line), held),
+            first,
+            Reason::PeriodNotClosed,
+        ),
+        Rule::YearOfA => own::unless(v == filed.year, first, Reason::YearNotOfA),
+        Rule::PeriodOfA => own::unless(v == filed.month, first, Reason::PeriodNotOfA),
+        Rule::FeinNew => fein_new(seen.fein, around.list_full, first),
+        Rule::FeinOfE => own::unless(v == open.fein, first, Reason::FeinNotOfE),
+        Rule::DateInQuarter => date_in_quarter(own::is_final(marks, line), v, filed, first),
+        Rule::IdentityNew => identity_new(v, seen.id, around.ids_full, first),
+        Rule::CountOfS => count_of_s(v, open.count, open.follow, first),
+        Rule::WagesOfS => own::unless(v == open.sum, first, Reason::WagesNotOfS),
+        Rule::FileCountOfS => own::unless(v == all.count, first, Reason::FileCountNotOfS),
+        Rule::FileCountOfE => own::unless(v == all.employers, first, Reason::FileCountNotOfE),
+        Rule::FileWagesOfS => own::unless(v == all.sum, first, Reason::FileWagesNotOfS),
+    }
+}
+
+// A field held against its context.
+pub fn context_edit(
+    rule: Rule,
+    marks: Marks,
+    around: Context,
+    seen: Seen,
+    line: &[u8],
+    first: u16,
+    last: u16,
+) -> Edit
+    ensures { λ r. ⌜ findingOf r ≡ firstBroken (withContext rule marks around seen (capitals (now (line .entry))) first last) ⌝ }
+{
+    rule_edit(
+        rule,
+        marks,
+        around,
+        seen,
+        line,
+        first,
+        number::value_in(line, first, last),
+    )
+}

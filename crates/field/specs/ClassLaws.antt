@@ -1,0 +1,29 @@
+-- The laws of the class test.
+use Prim.Native.Nat.{ℕ, _-_}
+use mathlib.Core.Path.{_≡_, refl}
+use mathlib.Core.List.{List}
+use Rattle.laws.specs.Finding.{fine, broken, orElse, firstOf}
+use Rattle.chars.specs.Columns.{allowedTest, everyColumn}
+use Rattle.chars.specs.ColumnLaws.{every-says}
+use Rattle.chars.specs.declared.columns.Allowed.{Allowed}
+use Rattle.field.specs.Classes.{leadTest, allowedIn, classTest}
+use Rattle.field.specs.declared.class.Class.{Class}
+
+pub class-says : (class : Class) (line : List ℕ) (first last : ℕ)
+    → classTest class line first last ≡ orElse (leadTest class line first last) (everyColumn (allowedIn class line first last) line first last)
+unfolding classTest
+class-says class line first last = refl
+
+-- As a loop over a field's columns uses it.
+module _ (class : Class) (line : List ℕ) (first last : ℕ) where
+  -- A text that is broken as a whole breaks the class test.
+  pub lead-breaks : (column number : ℕ) → leadTest class line first last ≡ broken column number
+      → classTest class line first last ≡ broken column number
+  unfolding classTest
+  lead-breaks column number hit = rw hit
+
+  -- Behind a text that passes as a whole, the class test is that of the columns.
+  pub lead-passes : (allowed : Allowed) (at : ℕ) → leadTest class line first last ≡ fine → allowed ≡ allowedIn class line first last
+      → at ≡ first - 1 → classTest class line first last ≡ firstOf (allowedTest allowed line) at (last - at)
+  unfolding classTest
+  lead-passes allowed at passed holds start = rw (passed, holds, start) (every-says (allowedIn class line first last) line first last)

@@ -1,0 +1,45 @@
+-- The rules of numbers, edit by edit: the class test, then the rule of the value.
+use Prim.Native.Nat.{ℕ, _-_, _<_, _≤_}
+use mathlib.Core.Path.{_≡_, refl, _∙_}
+use mathlib.Core.Bool.{Bool, true, false, not}
+use mathlib.Core.List.{List}
+use Rattle.laws.specs.Choice.{if_then_else_}
+use Rattle.laws.specs.Finding.{orElse, Reading, value, refused, findingIn}
+use Rattle.calendar.specs.Quarters.{isFilingYear}
+use Rattle.chars.specs.Columns.{widthOf, everyColumn, unless}
+use Rattle.chars.specs.declared.columns.Allowed.the-variants.{Digits}
+use Rattle.number.specs.Numbers.{numberIn, valueOf, valueIn}
+use Rattle.number.specs.NumberLaws.{digits-read}
+use Rattle.number.specs.Rules.{onlyIf, yearIn, feinIn, beginsWith69, identityIn, mayBeFiled}
+
+-- The value of a field is that of its reading.
+pub value-says : (line : List ℕ) (first last : ℕ) → valueIn line first last ≡ valueOf (numberIn line first last)
+unfolding valueIn
+value-says line first last = refl
+
+rule-finds : (t : Bool) (v first number : ℕ) → findingIn (if t then value v else refused first number) ≡ unless t first number
+rule-finds true v first number = refl
+rule-finds false v first number = refl
+
+only-parts : (passes : ℕ → Bool) (first number : ℕ) (r : Reading)
+    → findingIn (onlyIf passes first number r) ≡ orElse (findingIn r) (unless (passes (valueOf r)) first number)
+only-parts passes first number (value v) = rule-finds (passes v) v first number
+only-parts passes first number (refused column other) = refl
+
+module _ (line : List ℕ) (first last : ℕ) (h : first - 1 < last) (w : widthOf first last ≤ 19) where
+  parts : (passes : ℕ → Bool) (number : ℕ)
+      → findingIn (onlyIf passes first number (numberIn line first last)) ≡ orElse (everyColumn Digits line first last) (unless (passes (valueIn line first last)) first number)
+  unfolding valueIn
+  parts passes number = only-parts passes first number (numberIn line first last) ∙ rw (digits-read line first last h w)
+
+  pub year-parts : findingIn (yearIn line first last) ≡ orElse (everyColumn Digits line first last) (unless (isFilingYear (valueIn line first last)) first 38)
+  unfolding yearIn
+  year-parts = parts isFilingYear 38
+
+  pub fein-parts : findingIn (feinIn line first last) ≡ orElse (everyColumn Digits line first last) (unless (not (beginsWith69 (valueIn line first last))) first 44)
+  unfolding feinIn
+  fein-parts = parts (λ fein. not (beginsWith69 fein)) 44
+
+  pub identity-parts : findingIn (identityIn line first last) ≡ orElse (everyColumn Digits line first last) (unless (mayBeFiled (valueIn line first last)) first 52)
+  unfolding identityIn
+  identity-parts = parts mayBeFiled 52

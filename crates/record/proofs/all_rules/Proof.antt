@@ -1,0 +1,12 @@
+-- `record::all_rules` meets its contract.
+use mathlib.Core.Path.{refl}
+use Rattle.record.specs.Rules.{rules, rulesOfA, rulesOfE, rulesOfS, rulesOfT, rulesOfF}
+use Rattle.record.proofs.all_rules.Statement.{statement}
+use Rattle.record.proofs.all_rules.Tie as tie
+
+returns : tie.Need-returns
+unfolding rules rulesOfA rulesOfE rulesOfS rulesOfT rulesOfF
+returns c = refl
+
+pub all-rules-spec : {M : Type 1} → statement M
+all-rules-spec = tie.close (tie.spec returns)
