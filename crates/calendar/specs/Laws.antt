@@ -8,7 +8,7 @@ use native.Mathlib.Omega.{arith}
 use lib.Dec.{eqb, leb}
 use borrow.Author.Tests.{eqb-true, ltb-true, ltb-false, lt-ltb, le-ltb, eq-eqb}
 use Rattle.laws.specs.Choice.{both-hold, within}
-use Rattle.calendar.specs.Quarters.{firstYear, lastYear, isQuarterMonth, isFilingYear, isAllowed, isAfter}
+use Rattle.calendar.specs.Quarters.{firstYear, lastYear, isQuarterMonth, isFilingYear, isAllowed, isAfter, isReportable}
 use Rattle.calendar.specs.declared.Quarter.{Quarter}
 
 -- ---- an allowed quarter
@@ -55,6 +55,12 @@ module _ (q : Quarter) (t : isAllowed q ≡ true) where
 
   pub allowed-month : isQuarterMonth (q .month) ≡ true
   allowed-month = parts .1
+
+-- ---- a quarter that may be reported
+pub reportable : (held q : Quarter) → isFilingYear (q .year) ≡ true → isQuarterMonth (q .month) ≡ true → isAfter q held ≡ false
+    → isReportable held q ≡ true
+unfolding isReportable
+reportable held q year month closed = rw (year, month, closed)
 
 -- ---- "after" is an order
 -- Of a later year, or of the same year and a later month.

@@ -1,6 +1,6 @@
 -- Quarters: which of them the paper allows, and which of two is the later.
 use Prim.Native.Nat.{ℕ}
-use mathlib.Core.Bool.{Bool, _&&_, _||_}
+use mathlib.Core.Bool.{Bool, not, _&&_, _||_}
 use lib.Dec.{eqb, leb, ltb}
 use Rattle.calendar.specs.declared.Quarter.{Quarter}
 
@@ -25,3 +25,7 @@ isAllowed q = isFilingYear (q .year) && leb (q .year) lastYear && isQuarterMonth
 -- "after the last closed quarter": of a later year, or of the same year and a later month.
 unfoldable pub isAfter : Quarter → Quarter → Bool
 isAfter a b = ltb (b .year) (a .year) || eqb (a .year) (b .year) && ltb (b .month) (a .month)
+
+-- "A's quarter": one that A's edits pass under the last closed quarter: from 2025 on, a quarter's month, not after the one held.
+unfoldable pub isReportable : Quarter → Quarter → Bool  -- held, then the quarter
+isReportable held q = isFilingYear (q .year) && isQuarterMonth (q .month) && not (isAfter q held)

@@ -1,6 +1,6 @@
 // Quarters and calendar dates as numbers. No line is read here.
 ghost use mathlib.Core.Path.{_≡_};
-ghost use Rattle.calendar.specs.Quarters.{isQuarterMonth, isFilingYear, isAllowed, isAfter};
+ghost use Rattle.calendar.specs.Quarters.{isQuarterMonth, isFilingYear, isAllowed, isAfter, isReportable};
 ghost use Rattle.calendar.specs.Dates.{isLeap, monthDays, daysIn, monthOf, dayOf, yearOf, isDate, inQuarter};
 
 const FIRST_YEAR: u64 = 2025;
@@ -53,6 +53,18 @@ pub fn is_after(a: Quarter, b: Quarter) -> bool
         return b.month < a.month;
     }
     b.year < a.year
+}
+
+// Whether a quarter may be reported while `held` is the last closed one.
+pub fn is_reportable(held: Quarter, q: Quarter) -> bool
+    ensures { λ r. ⌜ r ≡ isReportable held q ⌝ }
+{
+    if is_filing_year(q.year) {
+        if is_quarter_month(q.month) {
+            return !is_after(q, held);
+        }
+    }
+    false
 }
 
 fn is_leap(year: u64) -> bool

@@ -1,11 +1,11 @@
 -- The laws of characters that later layers cite.
 use Prim.Native.Nat.{ℕ, zero, suc, _+_, _-_, _<_, _≤_}
-use mathlib.Core.Path.{_≡_, refl, sym, _∙_}
+use mathlib.Core.Path.{_≡_, refl, sym, ap, _∙_}
 use mathlib.Core.Bool.{Bool, true, false, _&&_}
 use mathlib.Core.List.{List, [], _∷_}
 use native.Mathlib.Omega.{arith}
 use lib.Dec.{leb}
-use lib.ListN.{length, getD, drop, length-map, List·getD-map}
+use lib.ListN.{length, getD, take, drop, length-map, List·getD-map}
 use borrow.Author.Tests.{le-leb, lt-leb}
 use Rattle.laws.specs.Choice.{if_then_else_, within}
 use Rattle.chars.specs.Characters.{capitalOf, capitals, isDigit}
@@ -24,6 +24,12 @@ unfolding capitals
 capitals-drop zero line = refl
 capitals-drop (suc n) [] = refl
 capitals-drop (suc n) (c ∷ line) = capitals-drop n line
+
+pub capitals-take : (n : ℕ) (line : List ℕ) → capitals (take n line) ≡ take n (capitals line)
+unfolding capitals
+capitals-take zero line = refl
+capitals-take (suc n) [] = refl
+capitals-take (suc n) (c ∷ line) = ap (λ (l : List ℕ). capitalOf c ∷ l) (capitals-take n line)
 
 pub digit-range : (c : ℕ) → isDigit c ≡ true → (48 ≤ c) × (c ≤ 57)
 unfolding isDigit

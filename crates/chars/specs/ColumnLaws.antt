@@ -1,14 +1,14 @@
 -- The laws of columns, as a loop over a field's columns uses them.
 use Prim.Native.Nat.{ℕ, _+_, _-_}
 use mathlib.Core.Path.{_≡_, refl}
-use mathlib.Core.Bool.{Bool}
+use mathlib.Core.Bool.{Bool, true, false}
 use mathlib.Core.List.{List}
 use native.Mathlib.Omega.{arith}
 use lib.ListN.{getD}
 use Rattle.laws.specs.Choice.{if_then_else_}
 use Rattle.laws.specs.Finding.{fine, broken, firstOf}
 use Rattle.laws.specs.First.{finds-nothing}
-use Rattle.chars.specs.Columns.{widthOf, columnTest, allowedTest, everyColumn}
+use Rattle.chars.specs.Columns.{widthOf, columnTest, allowedTest, everyColumn, unless}
 use Rattle.chars.specs.declared.columns.Allowed.{Allowed}
 use Rattle.chars.specs.declared.columns.Allowed.the-variants.{Anything}
 
@@ -31,3 +31,8 @@ every-says allowed line first last = refl
 pub every-anything : (line : List ℕ) (first last : ℕ) → everyColumn Anything line first last ≡ fine
 unfolding everyColumn
 every-anything line first last = finds-nothing (allowedTest Anything line) (widthOf first last) (first - 1) (λ k h. refl)
+
+-- A test that is not refused holds.
+pub unless-fine : (passes : Bool) (first number : ℕ) → unless passes first number ≡ fine → passes ≡ true
+unless-fine true first number e = refl
+unless-fine false first number e = let z : _≡_ {A = ℕ} 0 1 = cc in absurd (omega arith)

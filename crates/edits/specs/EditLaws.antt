@@ -44,7 +44,7 @@ abbrev pub AllFine : List Edit → Type 0
 AllFine [] = Unit {0}
 AllFine (edit ∷ edits) = (edit .finds ≡ fine) × AllFine edits
 
-not-broken : (column number : ℕ) → fine ≡ broken column number → ⊥
+pub not-broken : (column number : ℕ) → fine ≡ broken column number → ⊥
 not-broken column number e = let z : _≡_ {A = ℕ} 0 1 = cc in omega arith
 
 -- Of two findings that come to nothing, each is nothing.
@@ -61,6 +61,11 @@ pub all-fine : (edits : List Edit) → AllFine edits → firstBroken edits ≡ f
 unfolding firstBroken
 all-fine [] all = refl
 all-fine (edit ∷ edits) all = rw (all .0) (all-fine edits (all .1))
+
+-- Of two lists, one after the other, each has none broken.
+pub all-append : (a b : List Edit) → AllFine (a ++ b) → AllFine a × AllFine b
+all-append [] b all = (tt, all)
+all-append (edit ∷ edits) b all = let rest = all-append edits b (all .1) in ((all .0, rest .0), rest .1)
 
 -- ---- the first
 -- The finding is that of one edit of the list, and none of those before it is broken.

@@ -1,15 +1,15 @@
 -- The field loop finds the first broken edit of the list of all fields' edits.
-use Prim.Native.Nat.{ℕ, _+_, _<_}
+use Prim.Native.Nat.{ℕ, zero, suc, _+_, _<_}
 use mathlib.Core.List.{List, [], _∷_, _++_}
 use mathlib.Core.Path.{_≡_, refl, sym, ap, _∙_}
-use native.Mathlib.Nat.{zero-add}
+use native.Mathlib.Nat.{zero-add, not-suc-le-zero, le-of-suc-le-suc}
 use native.Mathlib.Numerals.{add-one}
 use lib.ListN.{length, getD}
 use Rattle.laws.specs.Finding.{Finding, fine, orElse, firstOf}
 use Rattle.laws.specs.First.{first-same, first-shift}
 use Rattle.field.specs.Classes.{classOf}
 use Rattle.edits.specs.Edit.{firstBroken}
-use Rattle.edits.specs.EditLaws.{first-append}
+use Rattle.edits.specs.EditLaws.{first-append, AllFine, all-append}
 use Rattle.edits.specs.Fields.{Around, ruleOf, noRow, fieldAt, fieldsTest}
 use Rattle.edits.specs.Lists.{editsOf, fieldEdits}
 use Rattle.edits.specs.Parts.{Wide, field-parts}
@@ -71,3 +71,15 @@ pub fields-cons : (a : Around) (line row : List ℕ) (rows : List (List ℕ)) (w
     → fieldEdits a line (row ∷ rows) (which ∷ rules) ≡ editsOf a line row which ++ fieldEdits a line rows rules
 unfolding fieldEdits
 fields-cons a line row rows which rules = refl
+
+-- Where no edit of the fields is broken, none of any field is.
+pub field-fine : (a : Around) (line : List ℕ) (rows : List (List ℕ)) (rules : List ℕ) → AllFine (fieldEdits a line rows rules)
+    → (k : ℕ) → k < length rows → AllFine (editsOf a line (getD rows k noRow) (getD rules k 0))
+unfolding fieldEdits
+field-fine a line [] rules all k h = absurd (not-suc-le-zero h)
+field-fine a line (row ∷ rows) [] all zero h = all-append (editsOf a line row 0) (fieldEdits a line rows []) all .0
+field-fine a line (row ∷ rows) [] all (suc k) h =
+    field-fine a line rows [] (all-append (editsOf a line row 0) (fieldEdits a line rows []) all .1) k (le-of-suc-le-suc h)
+field-fine a line (row ∷ rows) (which ∷ rules) all zero h = all-append (editsOf a line row which) (fieldEdits a line rows rules) all .0
+field-fine a line (row ∷ rows) (which ∷ rules) all (suc k) h =
+    field-fine a line rows rules (all-append (editsOf a line row which) (fieldEdits a line rows rules) all .1) k (le-of-suc-le-suc h)

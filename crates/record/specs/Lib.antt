@@ -6,3 +6,5 @@ pub mod Wide
 pub mod JudgeLaws
 pub mod Theorems
 pub mod Listed
+pub mod Among
+pub mod Passed

@@ -63,6 +63,14 @@ mostEmployees = 100000
 abbrev pub countEdit : Kind → ℕ → Edit
 countEdit kind count = rule 61 1 (not (is Employee kind && leb mostEmployees count))
 
+-- "5, 6, 7, 8: input ends before A; after A; with E open; after T without F. Line is lines read + 1, column 1"
+abbrev pub endEdits : Phase → List Edit
+endEdits phase =
+    rule 5 1 (not (stands BeforeA phase)) ∷
+    rule 6 1 (not (stands AfterA phase)) ∷
+    rule 7 1 (not (stands EOpen phase)) ∷
+    rule 8 1 (not (stands AfterT phase)) ∷ []
+
 -- The place rules as tables: what a record of each kind finds, phase by phase.
 abbrev pub beforeA : Kind → Finding
 beforeA Transmitter = fine
@@ -173,3 +181,18 @@ place-parts AfterF true Final = simp (first-cons, first-none)
 place-parts AfterF false Final = simp (first-cons, first-none)
 place-parts AfterF true Unknown = simp (first-cons, first-none)
 place-parts AfterF false Unknown = simp (first-cons, first-none)
+
+-- What the input's end finds, phase by phase.
+abbrev pub endTest : Phase → Finding
+endTest BeforeA = broken 1 5
+endTest AfterA = broken 1 6
+endTest EOpen = broken 1 7
+endTest AfterT = broken 1 8
+endTest AfterF = fine
+
+pub end-parts : (phase : Phase) → firstBroken (endEdits phase) ≡ endTest phase
+end-parts BeforeA = simp (first-cons, first-none)
+end-parts AfterA = simp (first-cons, first-none)
+end-parts EOpen = simp (first-cons, first-none)
+end-parts AfterT = simp (first-cons, first-none)
+end-parts AfterF = simp (first-cons, first-none)

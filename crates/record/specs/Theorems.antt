@@ -1,6 +1,6 @@
 -- accepted-iff and first-is-first, of one line.
 use Prim.Native.Nat.{ℕ}
-use mathlib.Core.Path.{_≡_, refl, sym, ap}
+use mathlib.Core.Path.{_≡_, refl, sym}
 use native.Mathlib.Omega.{arith}
 use Rattle.laws.specs.Finding.{Finding, fine, broken}
 use Rattle.lines.specs.Lines.{Line, sizeOf}
@@ -9,10 +9,10 @@ use Rattle.edits.specs.Edit.{firstBroken}
 use Rattle.edits.specs.EditLaws.{AllFine, fine-all, all-fine, FirstIn, first-of-list}
 use Rattle.edits.specs.declared.Context.{Context}
 use Rattle.edits.specs.declared.Seen.{Seen}
-use Rattle.record.specs.Judge.{kindOn, lineEdits, saidBy, Judged, refusal, passed, verdictBy, judge}
+use Rattle.record.specs.Judge.{kindOn, lineEdits, saidBy, refusal, passed, verdictBy, judge}
 use Rattle.record.specs.declared.said.Said.{Said}
 
-not-passed : (column number taken : ℕ) (said : Said) → refusal column number ≡ passed taken said → ⊥
+pub not-passed : (column number taken : ℕ) (said : Said) → refusal column number ≡ passed taken said → ⊥
 not-passed column number taken said e = let z : _≡_ {A = ℕ} 0 1 = cc in omega arith
 
 passes-fine : (f : Finding) (size : ℕ) (says : Said) (taken : ℕ) (said : Said) → verdictBy f size says ≡ passed taken said → f ≡ fine

@@ -9,7 +9,7 @@ ghost use lib.Dec.{leb};
 ghost use Rattle.reason.specs.Numbers.{findingOf};
 ghost use Rattle.chars.specs.Columns.{unless};
 ghost use Rattle.edits.specs.Edit.{firstBroken};
-ghost use Rattle.record.specs.Place.{beforeA, afterA, underE, afterT, afterF, placeEdits, mostEmployees, countEdit};
+ghost use Rattle.record.specs.Place.{beforeA, afterA, underE, afterT, afterF, placeEdits, mostEmployees, countEdit, endEdits};
 
 fn before_a(kind: Kind) -> Edit
     ensures { λ r. ⌜ findingOf r ≡ beforeA kind ⌝ }
@@ -119,5 +119,18 @@ pub fn count_edit(kind: Kind, count: u64) -> Edit
         Kind::Total => Edit::Passed,
         Kind::Final => Edit::Passed,
         Kind::Unknown => Edit::Passed,
+    }
+}
+
+// What the end of the input finds: only after F may it come.
+pub fn end_edit(phase: Phase) -> Edit
+    ensures { λ r. ⌜ findingOf r ≡ firstBroken (endEdits phase) ⌝ }
+{
+    match phase {
+        Phase::BeforeA => Edit::Broken(1, Reason::EndsBeforeA),
+        Phase::AfterA => Edit::Broken(1, Reason::EndsAfterA),
+        Phase::EOpen => Edit::Broken(1, Reason::EndsWithEOpen),
+        Phase::AfterT => Edit::Broken(1, Reason::EndsWithoutF),
+        Phase::AfterF => Edit::Passed,
     }
 }

@@ -1,0 +1,197 @@
+-- The employers and the totals of an accepted file are those of its records, read forwards.
+use Prim.Native.Nat.{ℕ, _+_}
+use mathlib.Core.List.{List, [], _∷_, _++_, map, reverseAux, append-nil}
+use mathlib.Core.Logic.{_⊎_, inl, inr}
+use mathlib.Core.Path.{_≡_, refl, sym, ap, _∙_}
+use native.Mathlib.Nat.{zero-add, add-zero}
+use native.Mathlib.Omega.{arith}
+use lib.ListN.{length}
+use lib.Seq.{append-snoc}
+use Rattle.reason.specs.Numbers.{notice}
+use Rattle.lines.specs.Lines.{Line, linesOf, sizeOf}
+use Rattle.calendar.specs.declared.Quarter.{Quarter}
+use Rattle.edits.specs.declared.Open.{Open}
+use Rattle.edits.specs.declared.Phase.{Phase}
+use Rattle.edits.specs.declared.Phase.the-variants.{BeforeA, AfterA, EOpen, AfterT, AfterF}
+use Rattle.edits.specs.declared.Totals.{Totals}
+use Rattle.record.specs.Among.{passed-size}
+use Rattle.record.specs.Judge.{Judged, refusal, passed, recordOn}
+use Rattle.record.specs.Passed.{Fits, passed-fits}
+use Rattle.record.specs.Place.{endTest, end-parts}
+use Rattle.record.specs.declared.said.EmployeeOn.{EmployeeOn}
+use Rattle.record.specs.declared.said.EmployerOn.{EmployerOn}
+use Rattle.record.specs.declared.said.Said.{Said}
+use Rattle.record.specs.declared.said.Said.the-variants.{OfA, OfE, OfS, OfT, OfF, OfNone}
+use Rattle.tables.specs.Room.{Room}
+use Rattle.tables.specs.declared.Employer.{Employer}
+use Rattle.meaning.specs.Before.{phaseAfter, opened, withOne, openIn, totalsIn, noTotals, entryAtT, oneEmployer, oneEmployee, closedIn, ifOpen, entriesIn}
+use Rattle.meaning.specs.FileLaws.{records-reversed, meaning-end, meaning-refuses, meaning-goes-on}
+use Rattle.meaning.specs.Forward.{recordsOf, employeesAfter, wagesOf, entryOf, employersOf, employeesOf, totalsOf}
+use Rattle.meaning.specs.Meaning.{contextAt, onEarlierE, underThisE, judgeAt, fileEdits, FileFinding, nothing, found, foundOn, firstOfFile, recordsOnto, accepted, outcomeBy, meaningFrom, meaning}
+use Rattle.meaning.specs.Theorems.{not-refused}
+
+-- ---- each record in its place
+-- Where a record of each kind stands.
+abbrev InPlace : Phase → Said → Type 0
+InPlace phase (OfA quarter) = phase ≡ BeforeA
+InPlace phase (OfE employer) = (phase ≡ AfterA) ⊎ (phase ≡ AfterT)
+InPlace phase (OfS employee) = phase ≡ EOpen
+InPlace phase OfT = phase ≡ EOpen
+InPlace phase OfF = phase ≡ AfterT
+InPlace phase OfNone = ⊥
+
+-- The records to come, in file order, stand each in its place behind those before; F is the last.
+abbrev Placed : List Said → List Said → Type 0
+Placed p [] = phaseAfter p ≡ AfterF
+Placed p (said ∷ records) = InPlace (phaseAfter p) said × Placed (said ∷ p) records
+
+-- The end passes only after F.
+at-end : (phase : Phase) (line : ℕ) (p : List Said) (entries : List Employer) (totals : Totals)
+    → outcomeBy (foundOn line (endTest phase)) p ≡ accepted entries totals → phase ≡ AfterF
+at-end BeforeA line p entries totals e = absurd (not-refused entries totals (notice 5 line 1) (sym e))
+at-end AfterA line p entries totals e = absurd (not-refused entries totals (notice 6 line 1) (sym e))
+at-end EOpen line p entries totals e = absurd (not-refused entries totals (notice 7 line 1) (sym e))
+at-end AfterT line p entries totals e = absurd (not-refused entries totals (notice 8 line 1) (sym e))
+at-end AfterF line p entries totals e = refl
+
+module _ (room : Room) (held : Quarter) where
+  -- A record that passes is in its place.
+  in-place : (p : List Said) (said : Said) → Fits (contextAt room held p) (onEarlierE p) (underThisE p) said → InPlace (phaseAfter p) said
+  in-place p (OfA quarter) fits = fits .0
+  in-place p (OfE employer) fits = fits .0
+  in-place p (OfS employee) fits = fits .0
+  in-place p OfT fits = fits
+  in-place p OfF fits = fits
+  in-place p OfNone fits = fits
+
+  -- No line of an accepted file is refused.
+  line-passes : (p : List Said) (line : Line) (lines : List Line) (entries : List Employer) (totals : Totals)
+      → meaningFrom room held p (line ∷ lines) ≡ accepted entries totals → judgeAt room held p line ≡ passed (sizeOf line) (recordOn line)
+  line-passes p line lines entries totals e = at (judgeAt room held p line) refl where
+    at : (j : Judged) → judgeAt room held p line ≡ j → judgeAt room held p line ≡ passed (sizeOf line) (recordOn line)
+    at (refusal column number) told =
+        absurd (not-refused entries totals (notice number (length p + 1) column) (sym e ∙ meaning-refuses room held p line lines column number told))
+    at (passed taken said) told =
+        let says = passed-size (contextAt room held p) (onEarlierE p) (underThisE p) line taken said told in
+        told ∙ rw (says .0, says .1)
+
+  -- So each of its records is in its place.
+  all-placed : (p : List Said) (lines : List Line) (entries : List Employer) (totals : Totals)
+      → meaningFrom room held p lines ≡ accepted entries totals → Placed p (map recordOn lines)
+  all-placed p [] entries totals e =
+      at-end (phaseAfter p) (length p + 1) p entries totals (rw (← end-parts (phaseAfter p)) (sym (meaning-end room held p) ∙ e))
+  all-placed p (line ∷ lines) entries totals e =
+      let said = recordOn line in
+      let told = line-passes p line lines entries totals e in
+      let fits = passed-fits (contextAt room held p) (onEarlierE p) (underThisE p) line (sizeOf line) said told in
+      let left = sym (meaning-goes-on room held p line lines (sizeOf line) said told) ∙ e in
+      (in-place p said fits, all-placed (said ∷ p) lines entries totals left)
+
+-- The last record is F.
+ends-after-F : (p records : List Said) → Placed p records → phaseAfter (reverseAux records p) ≡ AfterF
+ends-after-F p [] placed = placed
+ends-after-F p (said ∷ records) placed = ends-after-F (said ∷ p) records (placed .1)
+
+-- ---- the employers
+-- The entry of the open E, with the S records that are still to come under it.
+abbrev entryWith : Open → List EmployeeOn → Employer
+entryWith this employees =
+    record { fein = this .fein; count = this .count + length employees; cents = this .sum + wagesOf employees }
+
+-- Nothing is under an E at first.
+with-none-before : (employer : EmployerOn) (employees : List EmployeeOn) → entryWith (opened employer) employees ≡ entryOf employer employees
+with-none-before employer employees = simp zero-add
+
+-- An S record is counted whether it stands before or is to come.
+with-one-more : (employee : EmployeeOn) (this : Open) (employees : List EmployeeOn)
+    → entryWith (withOne employee this) employees ≡ entryWith this (employee ∷ employees)
+with-one-more employee this employees =
+    let count : this .count + 1 + length employees ≡ this .count + length (employee ∷ employees) = omega arith in
+    let cents : this .sum + employee .wages + wagesOf employees ≡ this .sum + (employee .wages + wagesOf employees) = omega arith in
+    cc
+
+-- Nothing more is under it at T.
+with-none-left : (this : Open) → entryAtT this ≡ entryWith this []
+with-none-left this = simp add-zero
+
+-- No E is open where an E stands.
+none-open : (phase : Phase) (entry : Employer) → (phase ≡ AfterA) ⊎ (phase ≡ AfterT) → ifOpen phase entry ≡ []
+none-open phase entry (inl place) = rw place
+none-open phase entry (inr place) = rw place
+
+-- The entries of the records to come: that of the open E, then one for each E.
+abbrev entriesToCome : List Said → List Said → List Employer
+entriesToCome p records = ifOpen (phaseAfter p) (entryWith (openIn p) (employeesAfter records)) ++ employersOf records
+
+-- What T has closed at the end: what it had closed before, and the entries of the records to come.
+closed-at-end : (p records : List Said) → Placed p records → closedIn (reverseAux records p) ≡ closedIn p ++ entriesToCome p records
+closed-at-end p [] placed = rw placed (sym (append-nil (closedIn p)))
+closed-at-end p (OfA quarter ∷ records) placed = rw (placed .0) (closed-at-end (OfA quarter ∷ p) records (placed .1))
+closed-at-end p (OfE employer ∷ records) placed =
+    rw (none-open (phaseAfter p) (entryWith (openIn p) []) (placed .0), ← with-none-before employer (employeesAfter records))
+    (closed-at-end (OfE employer ∷ p) records (placed .1))
+closed-at-end p (OfS employee ∷ records) placed =
+    rw (placed .0, ← with-one-more employee (openIn p) (employeesAfter records)) (closed-at-end (OfS employee ∷ p) records (placed .1))
+closed-at-end p (OfT ∷ records) placed =
+    rw (placed .0, ← with-none-left (openIn p))
+    (closed-at-end (OfT ∷ p) records (placed .1) ∙ append-snoc (closedIn p) (entryAtT (openIn p)) (employersOf records))
+closed-at-end p (OfF ∷ records) placed = rw (placed .0) (closed-at-end (OfF ∷ p) records (placed .1))
+closed-at-end p (OfNone ∷ records) placed = absurd (placed .0)
+
+-- ---- the totals
+-- The totals of the records before and of those to come.
+abbrev together : Totals → Totals → Totals
+together a b = record { count = a .count + b .count; employers = a .employers + b .employers; sum = a .sum + b .sum }
+
+-- Totals of nothing add nothing.
+together-none : (all : Totals) → together all noTotals ≡ all
+together-none all = simp add-zero
+
+none-together : (all : Totals) → together noTotals all ≡ all
+none-together all = simp zero-add
+
+-- An E or S record is counted whether it stands before or is to come.
+employer-more : (employer : EmployerOn) (all : Totals) (records : List Said)
+    → together (oneEmployer all) (totalsOf records) ≡ together all (totalsOf (OfE employer ∷ records))
+employer-more employer all records =
+    let employers : all .employers + 1 + length (employersOf records) ≡ all .employers + length (employersOf (OfE employer ∷ records)) = omega arith in
+    cc
+
+employee-more : (employee : EmployeeOn) (all : Totals) (records : List Said)
+    → together (oneEmployee employee all) (totalsOf records) ≡ together all (totalsOf (OfS employee ∷ records))
+employee-more employee all records =
+    let employees = employeesOf records in
+    let count : all .count + 1 + length employees ≡ all .count + length (employee ∷ employees) = omega arith in
+    let sum : all .sum + employee .wages + wagesOf employees ≡ all .sum + (employee .wages + wagesOf employees) = omega arith in
+    cc
+
+-- The totals at the end: those before, and those of the records to come.
+totals-at-end : (p records : List Said) → totalsIn (reverseAux records p) ≡ together (totalsIn p) (totalsOf records)
+totals-at-end p [] = sym (together-none (totalsIn p))
+totals-at-end p (OfA quarter ∷ records) = totals-at-end (OfA quarter ∷ p) records
+totals-at-end p (OfE employer ∷ records) = totals-at-end (OfE employer ∷ p) records ∙ employer-more employer (totalsIn p) records
+totals-at-end p (OfS employee ∷ records) = totals-at-end (OfS employee ∷ p) records ∙ employee-more employee (totalsIn p) records
+totals-at-end p (OfT ∷ records) = totals-at-end (OfT ∷ p) records
+totals-at-end p (OfF ∷ records) = totals-at-end (OfF ∷ p) records
+totals-at-end p (OfNone ∷ records) = totals-at-end (OfNone ∷ p) records
+
+-- ---- the file
+-- An accepted file's entries and totals are those of its records.
+says-so : (f : FileFinding) (p : List Said) (entries : List Employer) (totals : Totals) → outcomeBy f p ≡ accepted entries totals
+    → (entries ≡ entriesIn p) × (totals ≡ totalsIn p)
+says-so nothing p entries totals e = (cc, cc)
+says-so (found line column number) p entries totals e = absurd (not-refused entries totals (notice number line column) (sym e))
+
+-- No E is open behind F.
+entries-at-end : (records : List Said) → Placed [] records → entriesIn (reverseAux records []) ≡ employersOf records
+entries-at-end records placed = rw (ends-after-F [] records placed, append-nil) (closed-at-end [] records placed)
+
+module _ (room : Room) (held : Quarter) (file : List ℕ) (entries : List Employer) (totals : Totals) where
+  -- "Then the employers reported are those of its E records, the counts and wage totals those of the S records under each."
+  pub employers-are : meaning room held file ≡ accepted entries totals → (entries ≡ employersOf (recordsOf file)) × (totals ≡ totalsOf (recordsOf file))
+  employers-are e =
+      let said = says-so (firstOfFile (fileEdits room held file)) (recordsOnto [] (linesOf file)) entries totals e in
+      let turned = records-reversed [] (linesOf file) in (
+        said .0 ∙ ap entriesIn turned ∙ entries-at-end (recordsOf file) (all-placed room held [] (linesOf file) entries totals e),
+        said .1 ∙ ap totalsIn turned ∙ totals-at-end [] (recordsOf file) ∙ none-together (totalsOf (recordsOf file)),
+      )

@@ -1,0 +1,62 @@
+-- The employers once more, read forwards: for each E record the S records right after it, their number and the sum of their wages.
+use Prim.Native.Nat.{ℕ, _+_}
+use mathlib.Core.List.{List, [], _∷_, map}
+use lib.ListN.{length}
+use Rattle.lines.specs.Lines.{linesOf}
+use Rattle.edits.specs.declared.Totals.{Totals}
+use Rattle.record.specs.Judge.{recordOn}
+use Rattle.record.specs.declared.said.EmployeeOn.{EmployeeOn}
+use Rattle.record.specs.declared.said.EmployerOn.{EmployerOn}
+use Rattle.record.specs.declared.said.Said.{Said}
+use Rattle.record.specs.declared.said.Said.the-variants.{OfA, OfE, OfS, OfT, OfF, OfNone}
+use Rattle.tables.specs.declared.Employer.{Employer}
+
+-- The records of a file, in file order.
+abbrev pub recordsOf : List ℕ → List Said
+recordsOf file = map recordOn (linesOf file)
+
+-- "The S records under an E are those after it with no other line between."
+abbrev pub employeesAfter : List Said → List EmployeeOn
+employeesAfter [] = []
+employeesAfter (OfS employee ∷ records) = employee ∷ employeesAfter records
+employeesAfter (OfA quarter ∷ records) = []
+employeesAfter (OfE employer ∷ records) = []
+employeesAfter (OfT ∷ records) = []
+employeesAfter (OfF ∷ records) = []
+employeesAfter (OfNone ∷ records) = []
+
+-- "Sums are of whole cents"
+abbrev pub wagesOf : List EmployeeOn → ℕ
+wagesOf [] = 0
+wagesOf (employee ∷ employees) = employee .wages + wagesOf employees
+
+abbrev pub entryOf : EmployerOn → List EmployeeOn → Employer
+entryOf employer employees = record { fein = employer .fein; count = length employees; cents = wagesOf employees }
+
+-- "Then the employers reported are those of its E records, the counts and wage totals those of the S records under each."
+abbrev pub employersOf : List Said → List Employer
+employersOf [] = []
+employersOf (OfE employer ∷ records) = entryOf employer (employeesAfter records) ∷ employersOf records
+employersOf (OfA quarter ∷ records) = employersOf records
+employersOf (OfS employee ∷ records) = employersOf records
+employersOf (OfT ∷ records) = employersOf records
+employersOf (OfF ∷ records) = employersOf records
+employersOf (OfNone ∷ records) = employersOf records
+
+-- All S records of the file.
+abbrev pub employeesOf : List Said → List EmployeeOn
+employeesOf [] = []
+employeesOf (OfS employee ∷ records) = employee ∷ employeesOf records
+employeesOf (OfA quarter ∷ records) = employeesOf records
+employeesOf (OfE employer ∷ records) = employeesOf records
+employeesOf (OfT ∷ records) = employeesOf records
+employeesOf (OfF ∷ records) = employeesOf records
+employeesOf (OfNone ∷ records) = employeesOf records
+
+abbrev pub totalsOf : List Said → Totals
+totalsOf records =
+    record {
+      count = length (employeesOf records);
+      employers = length (employersOf records);
+      sum = wagesOf (employeesOf records);
+    }

@@ -1,0 +1,6 @@
+pub mod Before
+pub mod Meaning
+pub mod Forward
+pub mod FileLaws
+pub mod Theorems
+pub mod Employers

@@ -1,0 +1,4 @@
+pub mod Walks
+pub mod Once
+pub mod Unfit
+pub mod UnfitLaws

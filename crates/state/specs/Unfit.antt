@@ -1,0 +1,71 @@
+-- 72, "state unfit", exactly by its list.
+use Prim.Native.Nat.{ℕ, _*_}
+use mathlib.Core.Bool.{Bool, true, false, not, _&&_, _||_}
+use lib.Dec.{leb, ltb, eqb}
+use Rattle.reason.specs.Numbers.{Notice}
+use Rattle.calendar.specs.Quarters.{isAllowed, isReportable}
+use Rattle.calendar.specs.declared.Quarter.{Quarter}
+use Rattle.edits.specs.declared.Open.{Open}
+use Rattle.edits.specs.declared.Phase.{Phase}
+use Rattle.edits.specs.declared.Phase.the-variants.{BeforeA, AfterA, EOpen, AfterT, AfterF}
+use Rattle.edits.specs.declared.Totals.{Totals}
+use Rattle.record.specs.Place.{mostEmployees}
+use Rattle.tables.specs.Room.{Room, entriesUsed}
+use Rattle.state.specs.Walks.{Standing, reading, accepted, refused, Walk}
+
+abbrev pub mostLines : ℕ
+mostLines = 231074
+
+-- What 14 digits of wages can say.
+abbrev pub mostWages : ℕ
+mostWages = 99999999999999
+
+abbrev pub mostFein : ℕ
+mostFein = 999999999
+
+-- "employers exceed the list or 65,536; S in the file exceed 100,000"; "either wage sum exceeds its S count times 99,999,999,999,999";
+-- "lines read exceed 231,074"
+unfoldable pub fileUnfit : ℕ → Totals → ℕ → Bool
+fileUnfit entries all lines =
+    ltb entries (all .employers) || ltb mostEmployees (all .count) || ltb (all .count * mostWages) (all .sum) || ltb mostLines lines
+
+-- Of an open E: "ids in use exceed the id table"; "S in the file .. are fewer than the open E's"; "either wage sum ..";
+-- "an E is open and there is no employer; the open E's FEIN exceeds 999,999,999"
+unfoldable pub openUnfit : ℕ → ℕ → Totals → Open → Bool
+openUnfit ids used all this =
+    ltb ids used || ltb (all .count) (this .count) || ltb (this .count * mostWages) (this .sum) || eqb (all .employers) 0 || ltb mostFein (this .fein)
+
+-- "nor an open E's numbers, ids in use among them, when none is open"
+abbrev pub isOpen : Standing → Bool
+isOpen (reading BeforeA) = false
+isOpen (reading AfterA) = false
+isOpen (reading EOpen) = true
+isOpen (reading AfterT) = false
+isOpen (reading AfterF) = false
+isOpen accepted = false
+isOpen (refused notice) = false
+
+-- "A refusal from 1 to 63 .. After these and 70 the state keeps number and place": a number that a refusal leaves in the state.
+unfoldable pub isLeft : ℕ → Bool
+isLeft number = leb 1 number && leb number 63 || eqb number 70
+
+-- "in a walk not refused, the quarter held, or A's once A is read, is none that this paper allows"
+abbrev pub bothUnfit : Quarter → Quarter → Bool
+bothUnfit held filed = not (isAllowed held) || not (isReportable held filed)
+
+abbrev pub standingUnfit : Standing → Quarter → Quarter → Bool
+standingUnfit (reading BeforeA) held filed = not (isAllowed held)
+standingUnfit (reading AfterA) held filed = bothUnfit held filed
+standingUnfit (reading EOpen) held filed = bothUnfit held filed
+standingUnfit (reading AfterT) held filed = bothUnfit held filed
+standingUnfit (reading AfterF) held filed = bothUnfit held filed
+standingUnfit accepted held filed = bothUnfit held filed
+-- "a refused walk's number is none that a refusal leaves in the state"
+standingUnfit (refused notice) held filed = not (isLeft (notice .number))
+
+-- "72 comes first of all and exactly if"
+unfoldable pub unfit : Room → Walk → Bool
+unfit room walk =
+    fileUnfit (entriesUsed room) (walk .all) (walk .lines)
+    || isOpen (walk .standing) && openUnfit (room .ids) (walk .used) (walk .all) (walk .open)
+    || standingUnfit (walk .standing) (walk .held) (walk .filed)

@@ -1,0 +1,142 @@
+-- What a state that is not unfit is bounded by, and the other way: bounds that make a state fit.
+use Prim.Native.Nat.{ℕ, _*_, _≤_}
+use mathlib.Core.Bool.{Bool, true, false, _&&_, _||_, false≢true}
+use mathlib.Core.Path.{_≡_, refl, sym, _∙_}
+use native.Mathlib.Omega.{arith}
+use lib.Dec.{ltb, eqb}
+use borrow.Author.Tests.{le-ltb, ltb-false, ne-eqb, eqb-false}
+use Rattle.edits.specs.declared.Open.{Open}
+use Rattle.edits.specs.declared.Totals.{Totals}
+use Rattle.record.specs.Place.{mostEmployees}
+use Rattle.tables.specs.Room.{Room, entriesUsed}
+use Rattle.state.specs.Unfit.{mostLines, mostWages, mostFein, fileUnfit, openUnfit, isOpen, standingUnfit, unfit}
+use Rattle.state.specs.Walks.{Walk}
+
+-- Of two tests of which none holds, neither holds.
+pub neither : (a b : Bool) → a || b ≡ false → (a ≡ false) × (b ≡ false)
+neither true b e = absurd (false≢true (sym e))
+neither false b e = (refl, e)
+
+pub record FileSound (entries : ℕ) (all : Totals) (lines : ℕ) : Type 0 where
+  pub employers : all .employers ≤ entries
+  pub many : all .count ≤ mostEmployees
+  pub sum : all .sum ≤ all .count * mostWages
+  pub lines-read : lines ≤ mostLines
+
+pub record OpenSound (ids used : ℕ) (all : Totals) (this : Open) : Type 0 where
+  pub ids-fit : used ≤ ids
+  pub under : this .count ≤ all .count
+  pub under-sum : this .sum ≤ this .count * mostWages
+  pub some : 1 ≤ all .employers
+  pub fein : this .fein ≤ mostFein
+
+pub file-sound : (entries : ℕ) (all : Totals) (lines : ℕ) → fileUnfit entries all lines ≡ false → FileSound entries all lines
+unfolding fileUnfit
+file-sound entries all lines e =
+    let beyond = ltb entries (all .employers) in
+    let many = ltb mostEmployees (all .count) in
+    let high = ltb (all .count * mostWages) (all .sum) in
+    let a = neither (beyond || many || high) (ltb mostLines lines) e in
+    let b = neither (beyond || many) high (a .0) in
+    let c = neither beyond many (b .0) in
+    record {
+      employers = ltb-false _ _ (c .0);
+      many = ltb-false _ _ (c .1);
+      sum = ltb-false _ _ (b .1);
+      lines-read = ltb-false _ _ (a .1);
+    }
+
+pub sound-file : (entries : ℕ) (all : Totals) (lines : ℕ) → FileSound entries all lines → fileUnfit entries all lines ≡ false
+unfolding fileUnfit
+sound-file entries all lines s =
+    rw (
+      le-ltb entries (all .employers) (s .employers),
+      le-ltb mostEmployees (all .count) (s .many),
+      le-ltb (all .count * mostWages) (all .sum) (s .sum),
+      le-ltb mostLines lines (s .lines-read),
+    )
+
+pub open-sound : (ids used : ℕ) (all : Totals) (this : Open) → openUnfit ids used all this ≡ false → OpenSound ids used all this
+unfolding openUnfit
+open-sound ids used all this e =
+    let short = ltb ids used in
+    let more = ltb (all .count) (this .count) in
+    let high = ltb (this .count * mostWages) (this .sum) in
+    let empty = eqb (all .employers) 0 in
+    let a = neither (short || more || high || empty) (ltb mostFein (this .fein)) e in
+    let b = neither (short || more || high) empty (a .0) in
+    let c = neither (short || more) high (b .0) in
+    let d = neither short more (c .0) in
+    let none = eqb-false (all .employers) 0 (b .1) in
+    record {
+      ids-fit = ltb-false _ _ (d .0);
+      under = ltb-false _ _ (d .1);
+      under-sum = ltb-false _ _ (c .1);
+      some = omega arith;
+      fein = ltb-false _ _ (a .1);
+    }
+
+pub sound-open : (ids used : ℕ) (all : Totals) (this : Open) → OpenSound ids used all this → openUnfit ids used all this ≡ false
+unfolding openUnfit
+sound-open ids used all this s =
+    rw (
+      le-ltb ids used (s .ids-fit),
+      le-ltb (all .count) (this .count) (s .under),
+      le-ltb (this .count * mostWages) (this .sum) (s .under-sum),
+      ne-eqb (all .employers) 0 (λ e. omega (arith, s)),
+      le-ltb mostFein (this .fein) (s .fein),
+    )
+
+-- Where an E is open its numbers count too.
+open-part : (is held : Bool) → is && held ≡ false → is ≡ true → held ≡ false
+open-part true held e h = e
+open-part false held e h = absurd (false≢true h)
+
+open-whole : (is held : Bool) → (is ≡ true → held ≡ false) → is && held ≡ false
+open-whole true held h = h refl
+open-whole false held h = refl
+
+module _ (room : Room) (walk : Walk) where
+  abbrev under : Bool
+  under = isOpen (walk .standing) && openUnfit (room .ids) (walk .used) (walk .all) (walk .open)
+
+  abbrev standing : Bool
+  standing = standingUnfit (walk .standing) (walk .held) (walk .filed)
+
+  fit-parts : unfit room walk ≡ false → (fileUnfit (entriesUsed room) (walk .all) (walk .lines) ≡ false) × (under ≡ false)
+  unfolding unfit
+  fit-parts e =
+      let file = fileUnfit (entriesUsed room) (walk .all) (walk .lines) in
+      neither file under (neither (file || under) standing e .0)
+
+  pub fit-file : unfit room walk ≡ false → FileSound (entriesUsed room) (walk .all) (walk .lines)
+  fit-file e = file-sound _ _ _ (fit-parts e .0)
+
+  pub fit-open : unfit room walk ≡ false → isOpen (walk .standing) ≡ true → OpenSound (room .ids) (walk .used) (walk .all) (walk .open)
+  fit-open e h =
+      open-sound _ _ _ _ (open-part (isOpen (walk .standing)) (openUnfit (room .ids) (walk .used) (walk .all) (walk .open)) (fit-parts e .1) h)
+
+  pub sound-fit : FileSound (entriesUsed room) (walk .all) (walk .lines)
+      → (isOpen (walk .standing) ≡ true → OpenSound (room .ids) (walk .used) (walk .all) (walk .open))
+      → standingUnfit (walk .standing) (walk .held) (walk .filed) ≡ false → unfit room walk ≡ false
+  unfolding unfit
+  sound-fit file under standing =
+      let opened = open-whole (isOpen (walk .standing)) (openUnfit (room .ids) (walk .used) (walk .all) (walk .open)) (λ h. sound-open _ _ _ _ (under h)) in
+      rw (sound-file (entriesUsed room) (walk .all) (walk .lines) file, opened, standing)
+
+-- The three parts of the list, one after the other.
+module _ (room : Room) (walk : Walk) where
+  pub unfit-file : fileUnfit (entriesUsed room) (walk .all) (walk .lines) ≡ true → unfit room walk ≡ true
+  unfolding unfit
+  unfit-file e = rw e
+
+  pub unfit-open : fileUnfit (entriesUsed room) (walk .all) (walk .lines) ≡ false → isOpen (walk .standing) ≡ true
+      → openUnfit (room .ids) (walk .used) (walk .all) (walk .open) ≡ true → unfit room walk ≡ true
+  unfolding unfit
+  unfit-open e f g = rw (e, f, g)
+
+  pub unfit-standing : fileUnfit (entriesUsed room) (walk .all) (walk .lines) ≡ false
+      → isOpen (walk .standing) && openUnfit (room .ids) (walk .used) (walk .all) (walk .open) ≡ false
+      → unfit room walk ≡ standingUnfit (walk .standing) (walk .held) (walk .filed)
+  unfolding unfit
+  unfit-standing e f = rw (e, f)

@@ -1,0 +1,154 @@
+// 72: when a state is unfit.
+use crate::Stage;
+use crate::State;
+use calendar::Quarter;
+use edits::Open;
+use edits::Phase;
+use edits::Totals;
+ghost use Prim.Native.Nat.{_≤_};
+ghost use mathlib.Core.Path.{_≡_};
+ghost use Rattle.record.specs.Place.{mostEmployees};
+ghost use Rattle.tables.specs.Room.{entriesUsed};
+ghost use Rattle.state.specs.Walks.{reading, walkOf, standingOf};
+ghost use Rattle.state.specs.Unfit.{fileUnfit, openUnfit, isOpen, isLeft, bothUnfit, standingUnfit, unfit};
+
+pub const MOST_EMPLOYEES: u64 = 100000;
+
+pub const MOST_WAGES: u64 = 99999999999999;
+
+const MOST_LINES: u32 = 231074;
+
+const MOST_FEIN: u64 = 999999999;
+
+// How many entries of a list of this length are used.
+pub fn entries_used(list: usize) -> u64
+    ensures { λ r. ⌜ r ≡ entriesUsed (record { ids = 0; list = list }) ⌝ }
+{
+    if list < 65536 {
+        return list as u64;
+    }
+    65536
+}
+
+fn file_unfit(list: usize, all: Totals, lines: u32) -> bool
+    ensures { λ r. ⌜ r ≡ fileUnfit (entriesUsed (record { ids = 0; list = list })) all lines ⌝ }
+{
+    let entries = entries_used(list);
+    if entries < all.employers {
+        return true;
+    }
+    if MOST_EMPLOYEES < all.count {
+        return true;
+    }
+    if all.count * MOST_WAGES < all.sum {
+        return true;
+    }
+    MOST_LINES < lines
+}
+
+fn open_unfit(ids: usize, used: usize, all: Totals, e: Open) -> bool
+    requires { ⌜ all .count ≤ mostEmployees ⌝ }
+    ensures { λ r. ⌜ r ≡ openUnfit ids used all e ⌝ }
+{
+    if ids < used {
+        return true;
+    }
+    if all.count < e.count {
+        return true;
+    }
+    if e.count * MOST_WAGES < e.sum {
+        return true;
+    }
+    if all.employers == 0 {
+        return true;
+    }
+    MOST_FEIN < e.fein
+}
+
+fn under_e(phase: Phase) -> bool
+    ensures { λ r. ⌜ r ≡ isOpen (reading phase) ⌝ }
+{
+    match phase {
+        Phase::BeforeA => false,
+        Phase::AfterA => false,
+        Phase::EOpen => true,
+        Phase::AfterT => false,
+        Phase::AfterF => false,
+    }
+}
+
+// Whether an E is open.
+pub fn is_open(stage: Stage) -> bool
+    ensures { λ r. ⌜ r ≡ isOpen (standingOf stage) ⌝ }
+{
+    match stage {
+        Stage::Reading(phase) => under_e(phase),
+        Stage::Accepted => false,
+        Stage::Refused(_) => false,
+    }
+}
+
+// Whether a number is one that a refusal leaves in the state.
+fn is_left(number: u8) -> bool
+    ensures { λ r. ⌜ r ≡ isLeft number ⌝ }
+{
+    if number < 1 {
+        return false;
+    }
+    if number <= 63 {
+        return true;
+    }
+    number == 70
+}
+
+fn quarters_unfit(held: Quarter, filed: Quarter) -> bool
+    ensures { λ r. ⌜ r ≡ bothUnfit held filed ⌝ }
+{
+    if calendar::is_allowed(held) {
+        return !calendar::is_reportable(held, filed);
+    }
+    true
+}
+
+fn phase_unfit(phase: Phase, held: Quarter, filed: Quarter) -> bool
+    ensures { λ r. ⌜ r ≡ standingUnfit (reading phase) held filed ⌝ }
+{
+    match phase {
+        Phase::BeforeA => !calendar::is_allowed(held),
+        Phase::AfterA => quarters_unfit(held, filed),
+        Phase::EOpen => quarters_unfit(held, filed),
+        Phase::AfterT => quarters_unfit(held, filed),
+        Phase::AfterF => quarters_unfit(held, filed),
+    }
+}
+
+fn stage_unfit(stage: Stage, held: Quarter, filed: Quarter) -> bool
+    ensures { λ r. ⌜ r ≡ standingUnfit (standingOf stage) held filed ⌝ }
+{
+    match stage {
+        Stage::Reading(phase) => phase_unfit(phase, held, filed),
+        Stage::Accepted => quarters_unfit(held, filed),
+        Stage::Refused(refusal) => {
+            let reason = refusal.reason;
+            !is_left(reason::number_of(reason))
+        }
+    }
+}
+
+// 72 for a call that is lent tables of these lengths.
+pub fn is_unfit(st: State, ids: usize, list: usize) -> bool
+    ensures { λ r. ⌜ r ≡ unfit (record { ids = ids; list = list }) (walkOf st) ⌝ }
+{
+    let all = st.all;
+    if file_unfit(list, all, st.lines) {
+        return true;
+    }
+    let stage = st.stage;
+    if is_open(stage) {
+        if open_unfit(ids, st.used, all, st.open) {
+            return true;
+        }
+        return stage_unfit(stage, st.held, st.filed);
+    }
+    stage_unfit(stage, st.held, st.filed)
+}

@@ -1,0 +1,89 @@
+// The state of a walk over a wage file, handed back and forth by value, and when it is unfit.
+pub mod fitness;
+
+use calendar::Quarter;
+use edits::Open;
+use edits::Phase;
+use edits::Totals;
+use reason::Refusal;
+ghost use mathlib.Core.Path.{_≡_};
+ghost use Rattle.reason.specs.Numbers.{noticeOf};
+ghost use Rattle.meaning.specs.Before.{noQuarter, noneOpen, noTotals};
+ghost use Rattle.state.specs.Walks.{walkOf, openedWalk, refusedWalk};
+
+// Where a walk stands: among the records of the file; at its accepted end; or refused, with the place and the reason.
+pub enum Stage {
+    Reading(Phase),
+    Accepted,
+    Refused(Refusal),
+}
+
+pub struct State {
+    pub stage: Stage,
+    // Lines read; a refused line is not counted.
+    pub lines: u32,
+    // The last closed quarter, and A's.
+    pub held: Quarter,
+    pub filed: Quarter,
+    pub open: Open,
+    pub all: Totals,
+    // Ids in use: so many entries of the id table are the open E's.
+    pub used: usize,
+}
+
+pub fn no_quarter() -> Quarter
+    ensures { λ r. ⌜ r ≡ noQuarter ⌝ }
+{
+    Quarter { year: 0, month: 0 }
+}
+
+pub fn none_open() -> Open
+    ensures { λ r. ⌜ r ≡ noneOpen ⌝ }
+{
+    Open {
+        fein: 0,
+        follow: false,
+        count: 0,
+        sum: 0,
+    }
+}
+
+fn no_totals() -> Totals
+    ensures { λ r. ⌜ r ≡ noTotals ⌝ }
+{
+    Totals {
+        count: 0,
+        employers: 0,
+        sum: 0,
+    }
+}
+
+// The state of a walk that has read nothing.
+pub fn opened(held: Quarter) -> State
+    ensures { λ r. ⌜ walkOf r ≡ openedWalk held ⌝ }
+{
+    State {
+        stage: Stage::Reading(Phase::BeforeA),
+        lines: 0,
+        held,
+        filed: no_quarter(),
+        open: none_open(),
+        all: no_totals(),
+        used: 0,
+    }
+}
+
+// The state that a refusal leaves: its place and reason, every other number zero.
+pub fn refused(refusal: Refusal) -> State
+    ensures { λ r. ⌜ walkOf r ≡ refusedWalk (noticeOf refusal) ⌝ }
+{
+    State {
+        stage: Stage::Refused(refusal),
+        lines: 0,
+        held: no_quarter(),
+        filed: no_quarter(),
+        open: none_open(),
+        all: no_totals(),
+        used: 0,
+    }
+}

@@ -1,0 +1,4 @@
+pub mod Moves
+pub mod Ready
+pub mod Questions
+pub mod Steps

@@ -1,0 +1,186 @@
+// What opening, one line and the end answer and write, decided over values before any table is touched.
+pub mod line;
+pub mod passing;
+
+use calendar::Quarter;
+use edits::Phase;
+use reason::Edit;
+use reason::Reason;
+use reason::Refusal;
+use state::Stage;
+use state::State;
+use state::fitness;
+ghost use Prim.Native.Nat.{_≤_};
+ghost use mathlib.Core.Path.{_≡_};
+ghost use Rattle.reason.specs.Numbers.{numberOf, noticeOf};
+ghost use Rattle.state.specs.Unfit.{mostLines};
+ghost use Rattle.state.specs.Walks.{walkOf, reading};
+ghost use Rattle.step.specs.Moves.{movedBy, stays as staysOf, again as againOf, refuses, accepts, endStanding, endMoved, openMoved};
+
+// The bytes taken, 0 at an end call; or a refusal.
+pub enum Reply {
+    Fine(usize),
+    Refused(Refusal),
+}
+
+// What a call hands back: the state for the next call, and the reply.
+pub struct Answer {
+    pub state: State,
+    pub reply: Reply,
+}
+
+// What a call writes into the lent tables.
+pub enum Change {
+    Nothing,
+    // Both tables zeroed, every entry.
+    Clear,
+    // The employer list's entry at a place gets its FEIN.
+    Opens(usize, u64),
+    // The id table's entry at a place gets an identity number.
+    Adds(usize, u32),
+    // The first so many ids zeroed; the list's entry at a place gets its count and cents.
+    Closes(usize, usize, u64, u64),
+}
+
+pub struct Move {
+    pub answer: Answer,
+    pub change: Change,
+}
+
+// 71 and 72: nothing changed.
+fn stays(st: State, reason: Reason) -> Move
+    ensures { λ r. ⌜ movedBy r ≡ staysOf (numberOf reason) (walkOf st) ⌝ }
+{
+    Move {
+        answer: Answer {
+            state: st,
+            reply: Reply::Refused(Refusal {
+                line: 0,
+                column: 0,
+                reason,
+            }),
+        },
+        change: Change::Nothing,
+    }
+}
+
+// A refused walk: answered again, both tables zeroed again, but for 70.
+fn again(st: State, refusal: Refusal) -> Move
+    ensures { λ r. ⌜ movedBy r ≡ againOf (noticeOf refusal) (walkOf st) ⌝ }
+{
+    let reason = refusal.reason;
+    if reason::number_of(reason) == 70 {
+        return Move {
+            answer: Answer {
+                state: st,
+                reply: Reply::Refused(refusal),
+            },
+            change: Change::Nothing,
+        };
+    }
+    Move {
+        answer: Answer {
+            state: st,
+            reply: Reply::Refused(refusal),
+        },
+        change: Change::Clear,
+    }
+}
+
+// A refusal at the line behind those read: the walk ends, both tables are zeroed.
+fn refuse(st: State, column: u16, reason: Reason) -> Move
+    requires { ⌜ st .lines ≤ mostLines ⌝ }
+    ensures { λ r. ⌜ movedBy r ≡ refuses (walkOf st) column (numberOf reason) ⌝ }
+{
+    let refusal = Refusal {
+        line: st.lines + 1,
+        column,
+        reason,
+    };
+    Move {
+        answer: Answer {
+            state: state::refused(refusal),
+            reply: Reply::Refused(refusal),
+        },
+        change: Change::Clear,
+    }
+}
+
+// The file is accepted: the state keeps all as it is after F, the phase apart.
+fn accept(st: State) -> Move
+    ensures { λ r. ⌜ movedBy r ≡ accepts (walkOf st) ⌝ }
+{
+    let held = st.held;
+    let filed = st.filed;
+    let open = st.open;
+    let all = st.all;
+    let state = State {
+        stage: Stage::Accepted,
+        lines: st.lines,
+        held,
+        filed,
+        open,
+        all,
+        used: st.used,
+    };
+    Move {
+        answer: Answer {
+            state,
+            reply: Reply::Fine(0),
+        },
+        change: Change::Nothing,
+    }
+}
+
+fn end_reading(st: State, phase: Phase) -> Move
+    requires { ⌜ st .lines ≤ mostLines ⌝ }
+    ensures { λ r. ⌜ movedBy r ≡ endStanding (walkOf st) (reading phase) ⌝ }
+{
+    let e = record::place::end_edit(phase);
+    match e {
+        Edit::Passed => accept(st),
+        Edit::Broken(column, reason) => refuse(st, column, reason),
+    }
+}
+
+// The end of the input, for a call that is lent tables of these lengths.
+pub fn end_move(st: State, ids: usize, list: usize) -> Move
+    ensures { λ r. ⌜ movedBy r ≡ endMoved (record { ids = ids; list = list }) (walkOf st) ⌝ }
+{
+    if fitness::is_unfit(st, ids, list) {
+        return stays(st, Reason::StateUnfit);
+    }
+    let stage = st.stage;
+    match stage {
+        Stage::Reading(phase) => end_reading(st, phase),
+        Stage::Accepted => stays(st, Reason::WalkEnded),
+        Stage::Refused(refusal) => again(st, refusal),
+    }
+}
+
+// Opening: a bad quarter is 70, and nothing is touched.
+pub fn open_move(held: Quarter) -> Move
+    ensures { λ r. ⌜ movedBy r ≡ openMoved held ⌝ }
+{
+    if calendar::is_allowed(held) {
+        return Move {
+            answer: Answer {
+                state: state::opened(held),
+                reply: Reply::Fine(0),
+            },
+            change: Change::Clear,
+        };
+    }
+    let refusal = Refusal {
+        line: 0,
+        column: 0,
+        reason: Reason::BadQuarter,
+    };
+    Move {
+        answer: Answer {
+            state: state::refused(refusal),
+            reply: Reply::Refused(refusal),
+        },
+        change: Change::Nothing,
+    }
+}

@@ -1,0 +1,5 @@
+pub mod Tables
+pub mod Room
+pub mod Laws
+pub mod Pad
+pub mod Steps

@@ -1,0 +1,43 @@
+-- What the functions over the two tables make of them and tell of them.
+use Prim.Native.Nat.{ℕ, min}
+use mathlib.Core.Bool.{Bool, false, _||_}
+use mathlib.Core.List.{List, [], _∷_, _++_, map}
+use lib.Dec.{eqb}
+use lib.ListN.{length, getD, drop, set, replicate}
+use Rattle.tables.specs.declared.Employer.{Employer}
+
+-- The first n entries at rest, as z is, and the others as they are.
+unfoldable pub wiped : {A : Type 0} → A → ℕ → List A → List A
+wiped z n l = replicate (min n (length l)) z ++ drop n l
+
+-- Whether a number is among these.
+unfoldable pub isAmong : ℕ → List ℕ → Bool
+isAmong v [] = false
+isAmong v (x ∷ xs) = eqb x v || isAmong v xs
+
+-- ---- the employer list
+-- An entry at rest.
+abbrev pub noEmployer : Employer
+noEmployer = record { fein = 0; count = 0; cents = 0 }
+
+-- An entry begun: no S record yet.
+abbrev pub opened : ℕ → Employer
+opened fein = record { fein = fein; count = 0; cents = 0 }
+
+-- The entry at a place done: its FEIN, with the count and the cents.
+unfoldable pub closedAt : ℕ → ℕ → ℕ → List Employer → List Employer
+closedAt at count cents l = set l at (record { fein = getD l at noEmployer .fein; count = count; cents = cents })
+
+abbrev pub feinsOf : List Employer → List ℕ
+feinsOf l = map (λ (e : Employer). e .fein) l
+
+-- ---- the rows of three numbers that hold the list
+-- A row at rest.
+abbrev pub noRow : List ℕ
+noRow = 0 ∷ 0 ∷ 0 ∷ []
+
+abbrev pub entryOf : List ℕ → Employer
+entryOf row = record { fein = getD row 0 0; count = getD row 1 0; cents = getD row 2 0 }
+
+unfoldable pub entriesOf : List (List ℕ) → List Employer
+entriesOf rows = map entryOf rows

@@ -1,0 +1,22 @@
+// The two tables that a caller lends: identity numbers, and the entries of employers. None of the functions asks anything of their length.
+pub mod ids;
+pub mod list;
+
+ghost use mathlib.Core.Path.{_≡_};
+ghost use Prim.Native.Nat.{min};
+
+// An employer's entry: its FEIN, the number of S records and the sum of their wages in cents.
+pub struct Employer {
+    pub fein: u64,
+    pub count: u64,
+    pub cents: u64,
+}
+
+fn lesser(a: usize, b: usize) -> usize
+    ensures { λ r. ⌜ r ≡ min a b ⌝ }
+{
+    if a < b {
+        return a;
+    }
+    b
+}
