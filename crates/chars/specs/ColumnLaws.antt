@@ -8,9 +8,11 @@ use lib.ListN.{getD}
 use Rattle.laws.specs.Choice.{if_then_else_}
 use Rattle.laws.specs.Finding.{fine, broken, firstOf}
 use Rattle.laws.specs.First.{finds-nothing}
+use Rattle.laws.specs.Numbered.{Between, Within, fine-within, broken-within, choice-within, first-within}
+use Rattle.chars.specs.Characters.{isPermitted, isBlank, isDigit, isOfName}
 use Rattle.chars.specs.Columns.{widthOf, columnTest, allowedTest, everyColumn, unless}
 use Rattle.chars.specs.declared.columns.Allowed.{Allowed}
-use Rattle.chars.specs.declared.columns.Allowed.the-variants.{Anything}
+use Rattle.chars.specs.declared.columns.Allowed.the-variants.{Anything, Permitted, Blanks, Digits, OfNames}
 
 -- The column behind a place stands at that place.
 pub column-of : (allowed : Allowed) (line : List ℕ) (at : ℕ) → allowedTest allowed line (at + 1 - 1) ≡ allowedTest allowed line at
@@ -36,3 +38,25 @@ every-anything line first last = finds-nothing (allowedTest Anything line) (widt
 pub unless-fine : (passes : Bool) (first number : ℕ) → unless passes first number ≡ fine → passes ≡ true
 unless-fine true first number e = refl
 unless-fine false first number e = let z : _≡_ {A = ℕ} 0 1 = cc in absurd (omega arith)
+
+-- ---- the numbers of the refusals
+module _ (least most : ℕ) where
+  pub unless-within : (passes : Bool) (first number : ℕ) → Between least most number → Within least most (unless passes first number)
+  unless-within passes first number between = search (choice-within, fine-within, broken-within)
+
+  column-within : (test : ℕ → Bool) (number : ℕ) (line : List ℕ) (at : ℕ) → Between least most number → Within least most (columnTest test number line at)
+  unfolding columnTest
+  column-within test number line at between = search unless-within
+
+  -- Columns are refused by 3, 30, 31 and 54.
+  module _ (low : Between least most 3) (high : Between least most 54) where
+    allowed-within : (allowed : Allowed) (line : List ℕ) (at : ℕ) → Within least most (allowedTest allowed line at)
+    allowed-within Anything line at = fine-within least most
+    allowed-within Permitted line at = column-within isPermitted 3 line at low
+    allowed-within Blanks line at = column-within isBlank 31 line at (omega arith)
+    allowed-within Digits line at = column-within isDigit 30 line at (omega arith)
+    allowed-within OfNames line at = column-within isOfName 54 line at high
+
+    pub every-within : (allowed : Allowed) (line : List ℕ) (first last : ℕ) → Within least most (everyColumn allowed line first last)
+    unfolding everyColumn
+    every-within allowed line first last = first-within least most (allowedTest allowed line) (allowed-within allowed line) (widthOf first last) (first - 1)

@@ -7,3 +7,4 @@ pub mod FieldLaws
 pub mod Parts
 pub mod Lists
 pub mod ListLaws
+pub mod Numbered

@@ -28,7 +28,7 @@ pub record IsFirst (edit : ℕ → Finding) (i n column number : ℕ) : Type 0 w
   pub hit : edit (i + at) ≡ broken column number
   pub none-before : (k : ℕ) → k < at → edit (i + k) ≡ fine
 
-not-broken : (column number : ℕ) → fine ≡ broken column number → ⊥
+pub not-broken : (column number : ℕ) → fine ≡ broken column number → ⊥
 not-broken column number e = let z : _≡_ {A = ℕ} 0 1 = cc in omega arith
 
 shifted : (edit : ℕ → Finding) (i k : ℕ) (f : Finding) → edit (i + 1 + k) ≡ f → edit (i + suc k) ≡ f

@@ -101,6 +101,20 @@ pub lines-nil : linesOf [] ≡ []
 unfolding linesFrom
 lines-nil = refl
 
+-- Byte by byte: none is left; one more belongs to the line before; a line begins.
+pub from-nil : (n : ℕ) → linesFrom n [] ≡ []
+unfolding linesFrom
+from-nil zero = refl
+from-nil (suc n) = refl
+
+pub from-skip : (n b : ℕ) (s : List ℕ) → linesFrom (suc n) (b ∷ s) ≡ linesFrom n s
+unfolding linesFrom
+from-skip n b s = refl
+
+pub from-line : (b : ℕ) (s : List ℕ) → linesFrom 0 (b ∷ s) ≡ firstLine (b ∷ s) ∷ linesFrom (sizeOf (firstLine (b ∷ s)) - 1) s
+unfolding linesFrom
+from-line b s = refl
+
 skipped : (n : ℕ) (s : List ℕ) → linesFrom n s ≡ linesOf (drop n s)
 unfolding linesFrom
 skipped zero s = refl

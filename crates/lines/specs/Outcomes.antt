@@ -8,6 +8,7 @@ use lib.Dec.{eqb}
 use lib.ListN.{length}
 use Rattle.laws.specs.Choice.{if_then_else_}
 use Rattle.laws.specs.Finding.{fine, broken, orElse, value, refused, findingIn}
+use Rattle.laws.specs.Numbered.{Between, Within, fine-within, broken-within, choice-within}
 use Rattle.lines.specs.Cutting.{beyond, cutting, lengthTest, endTest}
 use Rattle.lines.specs.Lines.{Line, sizeOf}
 
@@ -70,3 +71,13 @@ in-parts false missing size a b = refl
 pub cut-parts : (n : ℕ) (line : Line) → findingIn (cutting n line) ≡ orElse (lengthTest n line) (endTest n line)
 unfolding cutting lengthTest endTest
 cut-parts n line = in-parts (eqb (length (line .text)) n) (eqb (length (line .ending)) 0) (sizeOf line) (min (length (line .text) + 1) (beyond n)) (beyond n)
+
+-- ---- the numbers of the refusals
+module _ (least most n : ℕ) (line : Line) where
+  pub length-within : Between least most 1 → Within least most (lengthTest n line)
+  unfolding lengthTest
+  length-within between = search (choice-within, fine-within, broken-within)
+
+  pub end-within : Between least most 2 → Within least most (endTest n line)
+  unfolding endTest
+  end-within between = search (choice-within, fine-within, broken-within)

@@ -44,6 +44,15 @@ unfolding firstOfFile
 first-alone line edits =
     ap firstOfFile (sym (append-nil (onLine line edits))) ∙ first-on line edits [] ∙ or-nothing (foundOn line (firstBroken edits))
 
+-- The records of no line more, and of one line more.
+pub onto-nil : (p : List Said) → recordsOnto p [] ≡ p
+unfolding recordsOnto
+onto-nil p = refl
+
+pub onto-cons : (p : List Said) (line : Line) (lines : List Line) → recordsOnto p (line ∷ lines) ≡ recordsOnto (recordOn line ∷ p) lines
+unfolding recordsOnto
+onto-cons p line lines = refl
+
 -- ---- the records
 -- The records of the lines in file order, turned round onto those before.
 pub records-reversed : (p : List Said) (lines : List Line) → recordsOnto p lines ≡ reverseAux (map recordOn lines) p

@@ -4,15 +4,17 @@ use mathlib.Core.Path.{_≡_, refl, sym, _∙_}
 use mathlib.Core.Bool.{Bool, true, false, not}
 use mathlib.Core.List.{List}
 use native.Mathlib.Omega.{arith}
+use lib.Dec.{leb}
 use Rattle.laws.specs.Choice.{if_then_else_}
 use Rattle.laws.specs.Finding.{fine, orElse, Reading, value, refused, findingIn}
+use Rattle.laws.specs.Numbered.{Between, Within, broken-within}
 use Rattle.calendar.specs.Quarters.{isFilingYear, isQuarterMonth}
 use Rattle.chars.specs.Columns.{widthOf, everyColumn, unless}
-use Rattle.chars.specs.ColumnLaws.{unless-fine}
+use Rattle.chars.specs.ColumnLaws.{unless-fine, unless-within}
 use Rattle.chars.specs.declared.columns.Allowed.the-variants.{Digits}
 use Rattle.number.specs.Numbers.{numberIn, valueOf, valueIn}
 use Rattle.number.specs.NumberLaws.{digits-read}
-use Rattle.number.specs.Rules.{onlyIf, onlyOwn, yearIn, periodIn, feinIn, beginsWith69, identityIn, mayBeFiled}
+use Rattle.number.specs.Rules.{onlyIf, onlyOwn, yearIn, periodIn, flagIn, feinIn, beginsWith69, identityIn, mayBeFiled}
 
 -- The value of a field is that of its reading.
 pub value-says : (line : List ℕ) (first last : ℕ) → valueIn line first last ≡ valueOf (numberIn line first last)
@@ -54,3 +56,17 @@ own-passes passes first number (refused column other) e = let z : _≡_ {A = ℕ
 pub period-fine : (line : List ℕ) (first last : ℕ) → findingIn (periodIn line first last) ≡ fine → isQuarterMonth (valueIn line first last) ≡ true
 unfolding periodIn valueIn
 period-fine line first last e = own-passes isQuarterMonth first 40 (numberIn line first last) e
+
+-- ---- the numbers of the refusals: a rule that gives its own number gives no other
+module _ (least most : ℕ) where
+  own-within : (passes : ℕ → Bool) (first number : ℕ) (r : Reading) → Between least most number → Within least most (findingIn (onlyOwn passes first number r))
+  own-within passes first number (value v) between = rw rule-finds (unless-within least most (passes v) first number between)
+  own-within passes first number (refused column other) between = broken-within least most first number between
+
+  pub period-within : (line : List ℕ) (first last : ℕ) → Between least most 40 → Within least most (findingIn (periodIn line first last))
+  unfolding periodIn
+  period-within line first last between = own-within isQuarterMonth first 40 (numberIn line first last) between
+
+  pub flag-within : (line : List ℕ) (column : ℕ) → Between least most 47 → Within least most (findingIn (flagIn line column))
+  unfolding flagIn
+  flag-within line column between = own-within (λ flag. leb flag 1) column 47 (numberIn line column column) between

@@ -157,6 +157,14 @@ found-again SliceLength = refl
 pub same-number : (a b : Reason) → numberOf a ≡ numberOf b → a ≡ b
 same-number a b e = sym (found-again a) ∙ ap reasonOf e ∙ found-again b
 
+-- 0 is "accepted": it is no reason's.
+pub never-zero : (reason : Reason) → numberOf reason ≡ 0 → ⊥
+unfolding reasonOf
+never-zero reason e =
+    let this : reason ≡ SliceLength = sym (found-again reason) ∙ ap reasonOf e in
+    let z : _≡_ {A = ℕ} 0 83 = sym e ∙ ap numberOf this in
+    omega arith
+
 -- Every number listed is the number of a reason.
 right : ℕ → ℕ → Bool
 right k n = eqb (numberOf (reasonOf n)) n

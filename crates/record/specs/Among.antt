@@ -17,7 +17,8 @@ use Rattle.chars.specs.CharacterLaws.{capitals-take}
 use Rattle.number.specs.NumberLaws.{value-in-front}
 use Rattle.edits.specs.Edit.{firstBroken}
 use Rattle.edits.specs.declared.Context.{Context}
-use Rattle.record.specs.Judge.{kindOn, passed, verdictBy, judge, recordOn, seenBy, seenOn, editsAmong, judgeAmong}
+use Rattle.edits.specs.declared.Seen.{Seen}
+use Rattle.record.specs.Judge.{kindOn, lineEdits, passed, verdictBy, judge, recordOn, seenBy, seenOn, editsAmong, judgeAmong}
 use Rattle.record.specs.JudgeLaws.{cut-refuses, taken-text}
 use Rattle.record.specs.Kinds.{kindOf}
 use Rattle.record.specs.Theorems.{not-passed}
@@ -32,6 +33,12 @@ kind-in-front text = ap kindOf (getD-take 290 text 0 0 (omega arith))
 passes-as : (f : Finding) (size : ℕ) (says : Said) (taken : ℕ) (said : Said) → verdictBy f size says ≡ passed taken said → (taken ≡ size) × (said ≡ says)
 passes-as fine size says taken said e = (cc, cc)
 passes-as (broken column number) size says taken said e = absurd (not-passed column number taken said e)
+
+-- Where a line passes, the bytes taken are its own, and the record says what stands in its columns.
+pub judged-size : (here : Context) (seen : Seen) (line : Line) (taken : ℕ) (said : Said) → judge here seen line ≡ passed taken said
+    → (taken ≡ sizeOf line) × (said ≡ recordOn line)
+unfolding judge
+judged-size here seen line taken said e = passes-as (firstBroken (lineEdits here seen line)) (sizeOf line) (recordOn line) taken said e
 
 module _ (here : Context) (earlier under : ℕ → Bool) where
   pub judge-says : (line : Line)
@@ -69,9 +76,8 @@ module _ (here : Context) (earlier under : ℕ → Bool) where
         cut-refuses here _ (firstLine (take m s)) column number (lent-alike 290 m s lent ∙ e) ∙ sym (cut-refuses here _ (firstLine s) column number e)
     at (value taken) e = ap (judgeAmong here earlier under) (lent-line 290 m s lent (le-of-eq (taken-is-size 290 taken (firstLine s) e .0)))
 
-  -- Where a line passes, the bytes taken are its own, and the record says what stands in its columns.
   pub passed-size : (line : Line) (taken : ℕ) (said : Said) → judgeAmong here earlier under line ≡ passed taken said → (taken ≡ sizeOf line) × (said ≡ recordOn line)
-  passed-size line taken said e = passes-as (firstBroken (editsAmong here earlier under line)) (sizeOf line) (recordOn line) taken said (sym (judge-says line) ∙ e)
+  passed-size line taken said e = judged-size here (seenOn earlier under (capitals (line .text))) line taken said e
 
   -- It has 290 characters, so there is at least one.
   pub passed-positive : (line : Line) (taken : ℕ) (said : Said) → judgeAmong here earlier under line ≡ passed taken said → 1 ≤ sizeOf line

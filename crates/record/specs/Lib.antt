@@ -8,3 +8,4 @@ pub mod Theorems
 pub mod Listed
 pub mod Among
 pub mod Passed
+pub mod Numbered

@@ -34,8 +34,8 @@ use Rattle.edits.specs.declared.Phase.the-variants.{BeforeA, AfterA, EOpen, Aft
 use Rattle.edits.specs.declared.Rule.{Rule}
 use Rattle.edits.specs.declared.Rule.the-variants.{YearClosed, QuarterClosed, FeinNew, IdentityNew}
 use Rattle.edits.specs.declared.Seen.{Seen}
-use Rattle.record.specs.Among.{passed-size}
-use Rattle.record.specs.Judge.{kindOn, around, headEdits, textEdits, rowsFor, saidBy, passed, recordOn, seenBy, seenOn, judgeAmong}
+use Rattle.record.specs.Among.{judged-size, passed-size}
+use Rattle.record.specs.Judge.{kindOn, around, headEdits, textEdits, rowsFor, saidBy, passed, judge, recordOn, seenBy, seenOn, judgeAmong}
 use Rattle.record.specs.Place.{placeEdits, countEdit, mostEmployees, placeTest, place-parts}
 use Rattle.record.specs.Rules.{rulesFor, rulesOfA, rulesOfE, rulesOfS}
 use Rattle.record.specs.Theorems.{accepted-iff}
@@ -174,36 +174,54 @@ module _ (here : Context) (seen : Seen) (text : List ℕ) where
       ]
 
 -- ---- the record
-module _ (here : Context) (earlier under : ℕ → Bool) where
+module _ (here : Context) (seen : Seen) where
   -- The parts of a text's edits: place, count, fields.
-  split : (seen : Seen) (text : List ℕ) (kind : Kind) → AllFine (textEdits here seen text kind)
+  split : (text : List ℕ) (kind : Kind) → AllFine (textEdits here seen text kind)
       → (placeTest (here .phase) (here .open .follow) kind ≡ fine) × (countEdit kind (here .all .count) .finds ≡ fine)
       × AllFine (fieldEdits (around here seen kind) text (rowsFor kind) (rulesFor kind))
-  split seen text kind all =
+  split text kind all =
       let place = placeEdits (here .phase) (here .open .follow) kind in
       let parts = all-append (headEdits here text kind) (fieldEdits (around here seen kind) text (rowsFor kind) (rulesFor kind)) all in
       let placed = all-append place (countEdit kind (here .all .count) ∷ []) (parts .0 .1 .1) in
       (sym (place-parts (here .phase) (here .open .follow) kind) ∙ all-fine place (placed .0), placed .1 .0, parts .1)
 
-  fits : (kind : Kind) (text : List ℕ) → AllFine (textEdits here (seenBy earlier under kind text) text kind) → Fits here earlier under (saidBy kind text)
+  fits : (kind : Kind) (text : List ℕ) → AllFine (textEdits here seen text kind) → Fits here (λ n. seen .fein) (λ n. seen .id) (saidBy kind text)
   fits Transmitter text all =
-      let part = split _ text Transmitter all in
-      (place-of-A (here .phase) (here .open .follow) (part .0), closed-quarter here _ text (part .2))
+      let part = split text Transmitter all in
+      (place-of-A (here .phase) (here .open .follow) (part .0), closed-quarter here seen text (part .2))
   fits Employer text all =
-      let part = split _ text Employer all in
-      let new = new-fein here _ text (part .2) in
+      let part = split text Employer all in
+      let new = new-fein here seen text (part .2) in
       (place-of-E (here .phase) (here .open .follow) (part .0), new .0, new .1)
   fits Employee text all =
-      let part = split _ text Employee all in
+      let part = split text Employee all in
       let place = place-of-S (here .phase) (here .open .follow) (part .0) in
       let count = leb-false mostEmployees (here .all .count) (not-true _ (unless-fine _ 1 61 (part .1))) in
-      (place .0, place .1, count, new-identity here _ text (part .2))
-  fits Total text all = place-of-T (here .phase) (here .open .follow) (split _ text Total all .0)
-  fits Final text all = place-of-F (here .phase) (here .open .follow) (split _ text Final all .0)
+      (place .0, place .1, count, new-identity here seen text (part .2))
+  fits Total text all = place-of-T (here .phase) (here .open .follow) (split text Total all .0)
+  fits Final text all = place-of-F (here .phase) (here .open .follow) (split text Final all .0)
   fits Unknown text all = absurd (false≢true (unless-fine false 1 4 (all .1 .0)))
+
+  -- Where it is known only whether the line's own numbers were seen before.
+  pub seen-fits : (line : Line) (taken : ℕ) (said : Said) → judge here seen line ≡ passed taken said
+      → Fits here (λ n. seen .fein) (λ n. seen .id) said × Bounded said
+  seen-fits line taken said e =
+      let text = capitals (line .text) in
+      let all = accepted-iff here seen line .1 taken said e in
+      let says = sym (judged-size here seen line taken said e .1) in
+      (subst (Fits here (λ n. seen .fein) (λ n. seen .id)) says (fits (kindOn text) text (all .1 .1)), subst Bounded says (said-bounded line))
+
+module _ (here : Context) (earlier under : ℕ → Bool) where
+  fits-among : (kind : Kind) (text : List ℕ) → AllFine (textEdits here (seenBy earlier under kind text) text kind) → Fits here earlier under (saidBy kind text)
+  fits-among Transmitter text all = fits here _ Transmitter text all
+  fits-among Employer text all = fits here _ Employer text all
+  fits-among Employee text all = fits here _ Employee text all
+  fits-among Total text all = fits here _ Total text all
+  fits-among Final text all = fits here _ Final text all
+  fits-among Unknown text all = fits here _ Unknown text all
 
   pub passed-fits : (line : Line) (taken : ℕ) (said : Said) → judgeAmong here earlier under line ≡ passed taken said → Fits here earlier under said
   passed-fits line taken said e =
       let text = capitals (line .text) in
       let all = accepted-iff here (seenOn earlier under text) line .1 taken said e in
-      subst (Fits here earlier under) (sym (passed-size here earlier under line taken said e .1)) (fits (kindOn text) text (all .1 .1))
+      subst (Fits here earlier under) (sym (passed-size here earlier under line taken said e .1)) (fits-among (kindOn text) text (all .1 .1))

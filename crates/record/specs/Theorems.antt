@@ -36,8 +36,11 @@ module _ (here : Context) (seen : Seen) (line : Line) where
     λ taken said e. fine-all (lineEdits here seen line) (passes-fine (firstBroken (lineEdits here seen line)) _ _ taken said e),
   )
 
+  -- A refusal is what the first broken edit finds.
+  pub refused-finds : (column number : ℕ) → judge here seen line ≡ refusal column number → firstBroken (lineEdits here seen line) ≡ broken column number
+  unfolding judge
+  refused-finds column number e = refuses-broken (firstBroken (lineEdits here seen line)) _ _ column number e
+
   -- A refusal is a broken edit, and no edit before it in the stated order is broken.
   pub first-is-first : (column number : ℕ) → judge here seen line ≡ refusal column number → FirstIn (lineEdits here seen line) column number
-  unfolding judge
-  first-is-first column number e =
-      first-of-list (lineEdits here seen line) column number (refuses-broken (firstBroken (lineEdits here seen line)) _ _ column number e)
+  first-is-first column number e = first-of-list (lineEdits here seen line) column number (refused-finds column number e)

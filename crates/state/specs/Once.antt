@@ -4,12 +4,11 @@ use mathlib.Core.Path.{_≡_, refl, sym, ap}
 use native.Mathlib.Omega.{arith}
 use Rattle.reason.specs.Numbers.{Notice, noticeOf}
 use Rattle.reason.specs.Once.{same-notice}
-use Rattle.reason.specs.declared.Refusal.{Refusal}
 use Rattle.calendar.specs.declared.Quarter.{Quarter}
 use Rattle.edits.specs.declared.Open.{Open}
 use Rattle.edits.specs.declared.Phase.{Phase}
 use Rattle.edits.specs.declared.Totals.{Totals}
-use Rattle.state.specs.Walks.{Standing, reading, accepted, refused, Walk, standingOf, walkOf}
+use Rattle.state.specs.Walks.{reading, accepted, refused, Walk, standingOf, walkOf}
 use Rattle.state.specs.declared.Stage.{Stage}
 use Rattle.state.specs.declared.Stage.the-variants.{Reading, Accepted, Refused}
 use Rattle.state.specs.declared.State.{State}

@@ -1,5 +1,5 @@
 -- What the arithmetic of a record that passes rests on: no sum wraps.
-use Prim.Native.Nat.{ℕ, _+_, _*_, _≤_, _<_, _^_}
+use Prim.Native.Nat.{_+_, _*_, _≤_, _<_, _^_}
 use mathlib.Core.Logic.{_⊎_}
 use mathlib.Core.Path.{_≡_}
 use Rattle.record.specs.Place.{mostEmployees}
@@ -20,7 +20,7 @@ pub record ReadyS (walk : Walk) (employee : EmployeeOn) : Type 0 where
   pub wages : employee .wages ≤ mostWages
   pub room : (employee .id ≡ 0) ⊎ (walk .used + 1 < 2 ^ 64)
 
-abbrev ReadyFor : Walk → Said → Type 0
+abbrev pub ReadyFor : Walk → Said → Type 0
 ReadyFor walk (OfA quarter) = Unit {0}
 ReadyFor walk (OfE employer) = walk .all .employers ≤ mostEmployers
 ReadyFor walk (OfS employee) = ReadyS walk employee

@@ -6,8 +6,8 @@ use lib.ListN.{length, take, set, replicate}
 use Rattle.reason.specs.Numbers.{Notice}
 use Rattle.calendar.specs.declared.Quarter.{Quarter}
 use Rattle.lines.specs.Lines.{Line}
-use Rattle.tables.specs.Room.{Room, Tables, tables, roomOf, cleared}
-use Rattle.tables.specs.Tables.{wiped, isAmong, closedAt, feinsOf}
+use Rattle.tables.specs.Room.{Tables, tables, roomOf}
+use Rattle.tables.specs.Tables.{noEmployer, opened, wiped, isAmong, closedAt, feinsOf}
 use Rattle.tables.specs.declared.Employer.{Employer}
 use Rattle.state.specs.Walks.{Walk, walkOf}
 use Rattle.step.specs.Moves.{Moved, noticeIn, takenIn, lineMoved, endMoved, openMoved}
@@ -22,13 +22,23 @@ pub record Out : Type 0 where
   pub walk : Walk
   pub left : Tables
 
--- What a change leaves in the tables.
+-- What a change leaves in the id table, and in the employer list.
+abbrev pub idsAfter : Change → List ℕ → List ℕ
+idsAfter Nothing ids = ids
+idsAfter Clear ids = replicate (length ids) 0
+idsAfter (Opens at fein) ids = ids
+idsAfter (Adds at id) ids = set ids at id
+idsAfter (Closes used at count cents) ids = wiped 0 used ids
+
+abbrev pub listAfter : Change → List Employer → List Employer
+listAfter Nothing list = list
+listAfter Clear list = replicate (length list) noEmployer
+listAfter (Opens at fein) list = set list at (opened fein)
+listAfter (Adds at id) list = list
+listAfter (Closes used at count cents) list = closedAt at count cents list
+
 abbrev pub written : Change → Tables → Tables
-written Nothing t = t
-written Clear t = cleared t
-written (Opens at fein) t = tables (t .ids) (set (t .list) at (record { fein = fein; count = 0; cents = 0 }))
-written (Adds at id) t = tables (set (t .ids) at id) (t .list)
-written (Closes used at count cents) t = tables (wiped 0 used (t .ids)) (closedAt at count cents (t .list))
+written change t = tables (idsAfter change (t .ids)) (listAfter change (t .list))
 
 abbrev pub carried : Moved → Tables → Out
 carried m t = record { says = m .says; taken = m .taken; walk = m .walk; left = written (m .change) t }

@@ -1,4 +1,4 @@
--- The laws of text and of patterns.
+-- The laws of text, of patterns and of addresses.
 use Prim.Native.Nat.{ℕ, _+_, _<_, _≤_}
 use mathlib.Core.Path.{_≡_, refl}
 use mathlib.Core.Bool.{Bool, true, false, not, _||_}
@@ -9,8 +9,13 @@ use lib.ListN.{length, getD, drop, drop-of-length-le}
 use lib.Seq.{drop-cons, drop-drop, getD-drop}
 use Rattle.laws.specs.Choice.{if_then_else_}
 use Rattle.laws.specs.Finding.{fine, broken, orElse}
+use Rattle.laws.specs.Numbered.{Between, Within, fine-within, broken-within}
+use Rattle.codes.specs.declared.Region.{Region}
+use Rattle.codes.specs.declared.Region.the-variants.{State, Province, Unknown}
 use Rattle.chars.specs.Columns.{unless}
-use Rattle.text.specs.Text.{allBlank, isIndented, textTest, requiredText, optionalText, isAsked, readsAs}
+use Rattle.chars.specs.ColumnLaws.{unless-within}
+use Rattle.text.specs.Address.{stateTest, zipTest, extensionTest}
+use Rattle.text.specs.Text.{allBlank, isIndented, textTest, requiredText, optionalText, isAsked, readsAs, entityTest}
 
 -- ---- a pattern from the symbol i on
 module _ (text pattern : List ℕ) (i : ℕ) where
@@ -54,3 +59,23 @@ module _ (line : List ℕ) (first last : ℕ) where
   pub optional-parts : optionalText line first last ≡ unless (allBlank line first last || not (isIndented line first)) first 33
   unfolding textTest
   optional-parts = optional-tests (allBlank line first last) (isIndented line first) first
+
+-- ---- the numbers of the refusals
+module _ (least most : ℕ) where
+  pub entity-within : (code line : List ℕ) (first : ℕ) → Between least most 34 → Within least most (entityTest code line first)
+  entity-within code line first between = search unless-within
+
+  pub state-within : (region : Region) (first : ℕ) → Between least most 35 → Within least most (stateTest region first)
+  state-within State first between = search fine-within
+  state-within Province first between = search fine-within
+  state-within Unknown first between = search broken-within
+
+  pub zip-within : (region : Region) (line : List ℕ) (first : ℕ) → Between least most 36 → Within least most (zipTest region line first)
+  zip-within State line first between = search unless-within
+  zip-within Province line first between = search unless-within
+  zip-within Unknown line first between = search fine-within
+
+  pub extension-within : (region : Region) (line : List ℕ) (first : ℕ) → Between least most 37 → Within least most (extensionTest region line first)
+  extension-within State line first between = search unless-within
+  extension-within Province line first between = search unless-within
+  extension-within Unknown line first between = search fine-within

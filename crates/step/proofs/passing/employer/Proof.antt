@@ -1,0 +1,11 @@
+-- `step::passing::employer` meets its contract.
+use borrow.Author.Needs.{needs}
+use Rattle.step.proofs.passing.employer.Statement.{statement}
+use Rattle.step.proofs.passing.employer.Tie as tie
+
+returns : tie.Need-returns
+returns c = rw (c .moves .ensures, c .before .after .ensures)
+
+pub employer-spec : {M : Type 1} → statement M
+employer-spec =
+    tie.close (tie.spec (λ c. search needs) (λ c κs. search needs) (λ c κs. search needs) returns)

@@ -1,0 +1,11 @@
+pub mod At
+pub mod Writes
+pub mod Calls
+pub mod GoodLaws
+pub mod StepLaws
+pub mod CallLaws
+pub mod Means
+pub mod WholeLaws
+pub mod TablesAt
+pub mod NeverUnfit
+pub mod Employers

@@ -1,0 +1,206 @@
+-- walk-means: for every file, quarter, table lengths and lending, the calls answer and leave what the file means.
+use Prim.Native.Nat.{ℕ, zero, suc, _+_, _-_, _≤_}
+use mathlib.Core.Bool.{Bool, true, false, false≢true}
+use mathlib.Core.List.{List, [], _∷_}
+use mathlib.Core.Path.{_≡_, refl, sym, ap, subst, _∙_}
+use native.Mathlib.Omega.{arith}
+use lib.Dec.{eqb}
+use lib.ListN.{length, take, length-replicate}
+use borrow.Author.Tests.{ne-eqb, le-leb}
+use Rattle.laws.specs.Choice.{if_then_else_}
+use Rattle.laws.specs.Finding.{Finding}
+use Rattle.reason.specs.Numbers.{Notice, notice}
+use Rattle.calendar.specs.Quarters.{isAllowed}
+use Rattle.calendar.specs.declared.Quarter.{Quarter}
+use Rattle.lines.specs.Laws.{from-nil, from-skip, from-line}
+use Rattle.lines.specs.Lines.{Line, firstLine, sizeOf, linesFrom}
+use Rattle.lines.specs.Window.{Lent}
+use Rattle.edits.specs.declared.Phase.{Phase}
+use Rattle.edits.specs.declared.Phase.the-variants.{BeforeA, AfterA, EOpen, AfterT, AfterF}
+use Rattle.record.specs.Among.{passed-size, passed-positive}
+use Rattle.record.specs.Judge.{Judged, refusal, passed}
+use Rattle.record.specs.Passed.{passed-fits, Fits, Bounded, said-bounded}
+use Rattle.record.specs.Numbered.{refusal-numbered}
+use Rattle.record.specs.Place.{endTest, end-parts}
+use Rattle.record.specs.declared.said.Said.{Said}
+use Rattle.record.specs.declared.said.Said.the-variants.{OfNone}
+use Rattle.tables.specs.Pad.{pad-none}
+use Rattle.tables.specs.Room.{Room, Tables, tables, roomOf, zeroed}
+use Rattle.tables.specs.Tables.{noEmployer}
+use Rattle.meaning.specs.Before.{phaseAfter, totalsIn, entriesIn}
+use Rattle.meaning.specs.FileLaws.{onto-nil, onto-cons, meaning-end, meaning-refuses, meaning-goes-on}
+use Rattle.meaning.specs.Meaning.{contextAt, onEarlierE, underThisE, judgeAt, foundOn, recordsOnto, accepted, refused, outcomeBy, meaningFrom}
+use Rattle.state.specs.Unfit.{isLeft, unfit}
+use Rattle.state.specs.UnfitLaws.{sound-fit}
+use Rattle.state.specs.Walks.{refusedWalk}
+use Rattle.step.specs.Moves.{lineSeen, Moved, allWell, again, refuses, accepts, byVerdict, endVerdict, endMoved, openMoved}
+use Rattle.step.specs.Steps.{Out, carried, lineStep, endStep}
+use Rattle.walk.specs.At.{walkAt, tablesAt, Good}
+use Rattle.walk.specs.CallLaws.{pieces-are-whole, line-at, end-at}
+use Rattle.walk.specs.Calls.{Lending, calls, walked, refusedWith, leaves, wholeFile}
+use Rattle.walk.specs.GoodLaws.{good-none, good-more}
+use Rattle.walk.specs.StepLaws.{room-at, after-said, wrote, ids-none}
+
+-- ---- a refused walk
+pub left-number : (number : ℕ) → (1 ≤ number) × (number ≤ 63) → isLeft number ≡ true
+unfolding isLeft
+left-number number within = rw (le-leb 1 number (within .0), le-leb number 63 (within .1))
+
+-- Its state is fit where its number is one that a refusal leaves.
+pub refused-fit : (room : Room) (says : Notice) → isLeft (says .number) ≡ true → unfit room (refusedWalk says) ≡ false
+refused-fit room says e =
+    sound-fit room (refusedWalk says)
+    (record { employers = omega arith; many = omega arith; sum = omega arith; lines-read = omega arith })
+    (λ o. absurd (false≢true o))
+    (rw e)
+
+-- Called again it answers the same, and both tables are zeroed again; after 70 nothing is touched.
+again-end : (room : Room) (says : Notice) → isLeft (says .number) ≡ true → endMoved room (refusedWalk says) ≡ again says (refusedWalk says)
+unfolding endMoved
+again-end room says e = rw (refused-fit room says e)
+
+not-seventy : (number : ℕ) → (1 ≤ number) × (number ≤ 63) → eqb number 70 ≡ false
+not-seventy number within = ne-eqb number 70 (λ e. omega (arith, within))
+
+-- The end call after a refusal.
+end-refused : (room : Room) (says : Notice) → (1 ≤ says .number) × (says .number ≤ 63)
+    → endStep (refusedWalk says) (zeroed room) ≡ refusedWith says room
+end-refused room says within =
+    ap (λ (moved : Moved). carried moved (zeroed room)) (again-end (roomOf (zeroed room)) says (left-number (says .number) within))
+    ∙ rw (not-seventy (says .number) within, length-replicate, length-replicate)
+
+-- What the calls do with the answer of a line.
+abbrev pub next : (ℕ → ℕ) → List ℕ → Out → Out
+next lend rest o = if eqb (o .taken) 0 then endStep (o .walk) (o .left) else calls lend (o .taken - 1) rest (o .walk) (o .left)
+
+module _ (room : Room) (held : Quarter) (allowed : isAllowed held ≡ true) where
+  -- A refusal at a line or at the end zeroes both tables.
+  refused-at : (p : List Said) → Good room held p → (column number : ℕ)
+      → carried (refuses (walkAt held p) column number) (tablesAt room p) ≡ refusedWith (notice number (length p + 1) column) room
+  refused-at p g column number = ap (refusedWith (notice number (length p + 1) column)) (room-at room held p g)
+
+  -- ---- the end
+  accepted-end : (p : List Said) → Good room held p → phaseAfter p ≡ AfterF → carried (accepts (walkAt held p)) (tablesAt room p) ≡ leaves room held p (accepted (entriesIn p) (totalsIn p))
+  accepted-end p g e = rw (ids-none p AfterF e refl, pad-none {A = ℕ} 0 (room .ids))
+
+  end-leaves : (p : List Said) → Good room held p → (phase : Phase) → phaseAfter p ≡ phase
+      → carried (endVerdict (walkAt held p) (endTest phase)) (tablesAt room p) ≡ leaves room held p (outcomeBy (foundOn (length p + 1) (endTest phase)) p)
+  end-leaves p g BeforeA e = refused-at p g 1 5
+  end-leaves p g AfterA e = refused-at p g 1 6
+  end-leaves p g EOpen e = refused-at p g 1 7
+  end-leaves p g AfterT e = refused-at p g 1 8
+  end-leaves p g AfterF e = accepted-end p g e
+
+  pub ends-by : (p : List Said) → Good room held p
+      → endStep (walkAt held p) (tablesAt room p) ≡ leaves room held p (outcomeBy (foundOn (length p + 1) (endTest (phaseAfter p))) p)
+  ends-by p g =
+      end-at room held p g allowed
+      ∙ ap (λ (f : Finding). carried (endVerdict (walkAt held p) f) (tablesAt room p)) (end-parts (phaseAfter p))
+      ∙ end-leaves p g (phaseAfter p) refl
+
+  ends : (p : List Said) → Good room held p → endStep (walkAt held p) (tablesAt room p) ≡ leaves room held p (meaningFrom room held p [])
+  ends p g =
+      ends-by p g
+      ∙ sym (ap (leaves room held p) (meaning-end room held p ∙ ap (λ (f : Finding). outcomeBy (foundOn (length p + 1) f) p) (end-parts (phaseAfter p))))
+
+  -- ---- a line
+  -- What a line that is refused, and one that is taken, leaves.
+  pub line-refused : (p : List Said) → Good room held p → (line : Line) (column number : ℕ) → judgeAt room held p line ≡ refusal column number
+      → lineStep (walkAt held p) line (tablesAt room p) ≡ refusedWith (notice number (length p + 1) column) room
+  line-refused p g line column number e =
+      line-at room held p g allowed line ∙ ap (λ (v : Judged). carried (byVerdict (walkAt held p) v) (tablesAt room p)) e ∙ refused-at p g column number
+
+  some-record : (p : List Said) (said : Said) → Fits (contextAt room held p) (onEarlierE p) (underThisE p) said → said ≡ OfNone → ⊥
+  some-record p said fits e = subst (Fits (contextAt room held p) (onEarlierE p) (underThisE p)) e fits
+
+  pub line-taken : (p : List Said) → Good room held p → (line : Line) (taken : ℕ) (said : Said) → judgeAt room held p line ≡ passed taken said
+      → lineStep (walkAt held p) line (tablesAt room p)
+      ≡ record { says = allWell; taken = taken; walk = walkAt held (said ∷ p); left = tablesAt room (said ∷ p) }
+  line-taken p g line taken said e =
+      let fits = passed-fits (contextAt room held p) (onEarlierE p) (underThisE p) line taken said e in
+      line-at room held p g allowed line
+      ∙ ap (λ (v : Judged). carried (byVerdict (walkAt held p) v) (tablesAt room p)) e
+      ∙ rw (after-said held p said (some-record p said fits), wrote room held p g said fits)
+
+  pub taken-good : (p : List Said) → Good room held p → (line : Line) (taken : ℕ) (said : Said) → judgeAt room held p line ≡ passed taken said → Good room held (said ∷ p)
+  taken-good p g line taken said e =
+      let here = contextAt room held p in
+      let is = passed-size here (onEarlierE p) (underThisE p) line taken said e .1 in
+      good-more room held p g said (passed-fits here (onEarlierE p) (underThisE p) line taken said e) (subst Bounded (sym is) (said-bounded line))
+
+  module _ (lend : ℕ → ℕ) (lending : Lending lend) where
+    lent : (s : List ℕ) → Lent 290 (lend (length s)) s
+    lent s = lending (length s)
+
+    abbrev Walks : List ℕ → Type 0
+    Walks bytes = (skip : ℕ) (p : List Said) → Good room held p
+        → calls lend skip bytes (walkAt held p) (tablesAt room p) ≡ leaves room held (recordsOnto p (linesFrom skip bytes)) (meaningFrom room held p (linesFrom skip bytes))
+
+    -- A line is refused, and the end call answers the same; or taken, and the rest of the file follows.
+    goes : (rest : List ℕ) → Walks rest → (p : List Said) → Good room held p → (line : Line) (v : Judged) → judgeAt room held p line ≡ v
+        → next lend rest (lineStep (walkAt held p) line (tablesAt room p))
+        ≡ leaves room held (recordsOnto p (line ∷ linesFrom (sizeOf line - 1) rest)) (meaningFrom room held p (line ∷ linesFrom (sizeOf line - 1) rest))
+    goes rest more p g line (refusal column number) e =
+        let says = notice number (length p + 1) column in
+        ap (next lend rest) (line-refused p g line column number e)
+        ∙ end-refused room says (refusal-numbered _ _ line column number e)
+        ∙ sym (ap (leaves room held _) (meaning-refuses room held p line (linesFrom (sizeOf line - 1) rest) column number e))
+    goes rest more p g line (passed taken said) e =
+        let here = contextAt room held p in
+        let is = passed-size here (onEarlierE p) (underThisE p) line taken said e in
+        let some = passed-positive here (onEarlierE p) (underThisE p) line taken said e in
+        ap (next lend rest) (line-taken p g line taken said e)
+        ∙ rw (ne-eqb taken 0 (λ z. omega (arith, is .0, some)), is .0)
+        (more (sizeOf line - 1) (said ∷ p) (taken-good p g line taken said e)
+        ∙ ap (λ (q : List Said). leaves room held (recordsOnto q (linesFrom (sizeOf line - 1) rest)) (meaningFrom room held (said ∷ p) (linesFrom (sizeOf line - 1) rest))) (ap (λ (s : Said). s ∷ p) (is .1))
+        ∙ ap (λ (q : List Said). leaves room held q (meaningFrom room held (said ∷ p) (linesFrom (sizeOf line - 1) rest))) (sym (onto-cons p line (linesFrom (sizeOf line - 1) rest)))
+        ∙ ap (leaves room held _) (sym (meaning-goes-on room held p line (linesFrom (sizeOf line - 1) rest) taken said e)))
+
+    -- From any records that were taken, the calls leave what the rest of the file means.
+    walks : (bytes : List ℕ) → Walks bytes
+    unfolding calls
+    walks [] skip p g = rw (from-nil skip) (ends p g ∙ ap (λ (q : List Said). leaves room held q (meaningFrom room held p [])) (sym (onto-nil p)))
+    walks (b ∷ rest) (suc skip) p g = rw (from-skip skip b rest) (walks rest skip p g)
+    walks (b ∷ rest) zero p g =
+        ap (next lend rest) (pieces-are-whole (walkAt held p) (tablesAt room p) (lend (length (b ∷ rest))) (b ∷ rest) (lent (b ∷ rest)))
+        ∙ rw (from-line b rest) (goes rest (walks rest) p g (firstLine (b ∷ rest)) (judgeAt room held p (firstLine (b ∷ rest))) refl)
+
+-- ---- an opening that is refused
+module _ (t : Tables) where
+  abbrev seventy : Notice
+  seventy = notice 70 0 0
+
+  -- Each later call answers 70 again and touches nothing.
+  abbrev untouched : Out
+  untouched = record { says = seventy; taken = 0; walk = refusedWalk seventy; left = t }
+
+  is-left : isLeft 70 ≡ true
+  unfolding isLeft
+  is-left = refl
+
+  pub end-seventy : endStep (refusedWalk seventy) t ≡ untouched
+  unfolding endMoved
+  end-seventy = rw (refused-fit (roomOf t) seventy is-left)
+
+  pub line-seventy : (line : Line) → lineStep (refusedWalk seventy) line t ≡ untouched
+  unfolding lineSeen
+  line-seventy line = rw (refused-fit (roomOf t) seventy is-left)
+
+  calls-seventy : (lend : ℕ → ℕ) (file : List ℕ) → calls lend 0 file (refusedWalk seventy) t ≡ untouched
+  unfolding calls
+  calls-seventy lend [] = end-seventy
+  calls-seventy lend (b ∷ rest) = ap (next lend rest) (line-seventy (firstLine (take (lend (length (b ∷ rest))) (b ∷ rest)))) ∙ end-seventy
+
+-- ---- the theorem
+pub from-start : (room : Room) → tablesAt room [] ≡ zeroed room
+from-start room = rw (pad-none {A = ℕ} 0 (room .ids), pad-none noEmployer (room .list))
+
+-- Opening, line calls and one end call, whatever each is lent, answer and leave what the file means: the sentence in the manual. For a quarter
+-- that is refused they answer 70 and leave everything as it was.
+pub walk-means : (lend : ℕ → ℕ) → Lending lend → (held : Quarter) (file : List ℕ) (t : Tables) → walked lend held file t ≡ wholeFile held file t
+unfolding openMoved
+walk-means lend lending held file t = at (isAllowed held) refl where
+  at : (allowed : Bool) → isAllowed held ≡ allowed → walked lend held file t ≡ wholeFile held file t
+  at true e =
+      rw (e, ← from-start (roomOf t)) (walks (roomOf t) held e lend lending file 0 [] (good-none (roomOf t) held))
+  at false e = rw e (calls-seventy t lend file)

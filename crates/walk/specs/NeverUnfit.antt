@@ -1,0 +1,243 @@
+-- never-unfit: a walk from an opening whose state and tables nobody altered never answers 72.
+use Prim.Native.Nat.{ℕ, _+_}
+use mathlib.Core.Bool.{Bool, true, false, false≢true}
+use mathlib.Core.List.{List, [], _∷_}
+use mathlib.Core.Logic.{_⊎_, inl, inr}
+use mathlib.Core.Path.{_≡_, refl, sym, ap, subst, _∙_}
+use native.Mathlib.Omega.{arith}
+use lib.Dec.{eqb}
+use lib.ListN.{length, length-replicate}
+use Rattle.laws.specs.Choice.{if_then_else_}
+use Rattle.reason.specs.Numbers.{Notice, notice}
+use Rattle.calendar.specs.Quarters.{isAllowed}
+use Rattle.calendar.specs.declared.Quarter.{Quarter}
+use Rattle.lines.specs.Lines.{Line, firstLine}
+use Rattle.edits.specs.declared.Phase.{Phase}
+use Rattle.edits.specs.declared.Phase.the-variants.{BeforeA, AfterA, EOpen, AfterT, AfterF}
+use Rattle.record.specs.Judge.{Judged, refusal, passed}
+use Rattle.record.specs.Numbered.{refusal-numbered}
+use Rattle.record.specs.Place.{endTest}
+use Rattle.record.specs.declared.said.Said.{Said}
+use Rattle.tables.specs.Pad.{length-pad}
+use Rattle.tables.specs.Room.{Room, Tables, tables, roomOf, zeroed}
+use Rattle.tables.specs.Tables.{noEmployer}
+use Rattle.meaning.specs.Before.{phaseAfter, totalsIn, entriesIn}
+use Rattle.meaning.specs.Meaning.{judgeAt, foundOn, accepted, refused, outcomeBy}
+use Rattle.state.specs.Unfit.{isLeft, unfit}
+use Rattle.state.specs.UnfitLaws.{sound-fit}
+use Rattle.state.specs.Walks as walks
+use Rattle.state.specs.Walks.{Walk, refusedWalk}
+use Rattle.step.specs.Moves.{allWell, again, lineSeen, endMoved, openMoved}
+use Rattle.step.specs.Steps.{Out, written, carried, openStep, lineStep, endStep}
+use Rattle.step.specs.declared.Change.the-variants.{Nothing, Clear}
+use Rattle.walk.specs.At.{walkAt, acceptedAt, tablesAt, Good}
+use Rattle.walk.specs.Calls.{refusedWith, leaves}
+use Rattle.walk.specs.CallLaws.{file-sound-at}
+use Rattle.walk.specs.GoodLaws.{good-none, still-reportable}
+use Rattle.walk.specs.Means.{left-number, refused-fit, ends-by, line-refused, line-taken, taken-good}
+use Rattle.walk.specs.StepLaws.{entries-within}
+use Rattle.walk.specs.TablesAt.{opened-at}
+
+-- A call, on the state and the tables that the last one left.
+pub data Call : Type 0 where
+  lineCall : List ℕ → Call
+  endCall : Call
+
+abbrev pub callStep : Call → Out → Out
+callStep (lineCall bytes) o = lineStep (o .walk) (firstLine bytes) (o .left)
+callStep endCall o = endStep (o .walk) (o .left)
+
+abbrev pub afterCalls : List Call → Out → Out
+afterCalls [] o = o
+afterCalls (call ∷ more) o = afterCalls more (callStep call o)
+
+-- Where a walk that nobody altered stands: behind records that were taken; accepted; or refused.
+pub record Reads (room : Room) (held : Quarter) (o : Out) : Type 0 where
+  pub allowed : isAllowed held ≡ true
+  pub p : List Said
+  pub good : Good room held p
+  pub walk : o .walk ≡ walkAt held p
+  pub left : o .left ≡ tablesAt room p
+
+pub record Ended (room : Room) (held : Quarter) (o : Out) : Type 0 where
+  pub allowed : isAllowed held ≡ true
+  pub p : List Said
+  pub good : Good room held p
+  pub final : phaseAfter p ≡ AfterF
+  pub walk : o .walk ≡ acceptedAt held p
+  pub left : roomOf (o .left) ≡ room
+
+pub record Stopped (room : Room) (o : Out) : Type 0 where
+  pub says : Notice
+  pub number : isLeft (says .number) ≡ true
+  pub walk : o .walk ≡ refusedWalk says
+  pub left : roomOf (o .left) ≡ room
+
+abbrev pub Unaltered : Room → Quarter → Out → Type 0
+Unaltered room held o = Reads room held o ⊎ (Ended room held o ⊎ Stopped room o)
+
+-- A call leaves the walk so, and does not answer 72.
+abbrev Well : Room → Quarter → Out → Type 0
+Well room held o = (o .says .number ≡ 72 → ⊥) × Unaltered room held o
+
+-- A number that a refusal leaves is not 72.
+left-not-unfit : (number : ℕ) → isLeft number ≡ true → number ≡ 72 → ⊥
+unfolding isLeft
+left-not-unfit number e same = false≢true (ap isLeft (sym same) ∙ e)
+
+is-left-70 : isLeft 70 ≡ true
+unfolding isLeft
+is-left-70 = refl
+
+zeroed-room : (room : Room) → roomOf (zeroed room) ≡ room
+zeroed-room room = rw (length-replicate {A = ℕ} (room .ids) 0, length-replicate (room .list) noEmployer)
+
+well-refused : (room : Room) (held : Quarter) (says : Notice) (o : Out) → isLeft (says .number) ≡ true → o ≡ refusedWith says room → Well room held o
+well-refused room held says o e same = (
+  λ unfit-said. left-not-unfit (says .number) e (sym (ap (λ (x : Out). x .says .number) same) ∙ unfit-said),
+  inr (inr (record {
+    says = says;
+    number = e;
+    walk = ap (λ (x : Out). x .walk) same;
+    left = ap (λ (x : Out). roomOf (x .left)) same ∙ zeroed-room room;
+  })),
+)
+
+-- ---- from records that were taken
+module _ (room : Room) (held : Quarter) (allowed : isAllowed held ≡ true) (p : List Said) (g : Good room held p) where
+  reads : (o : Out) → o ≡ record { says = allWell; taken = o .taken; walk = walkAt held p; left = tablesAt room p } → Well room held o
+  reads o same = (
+    λ unfit-said. let z : _≡_ {A = ℕ} 0 72 = sym (ap (λ (x : Out). x .says .number) same) ∙ unfit-said in omega arith,
+    inl (record {
+      allowed = allowed;
+      p = p;
+      good = g;
+      walk = ap (λ (x : Out). x .walk) same;
+      left = ap (λ (x : Out). x .left) same;
+    }),
+  )
+
+module _ (room : Room) (held : Quarter) (allowed : isAllowed held ≡ true) (p : List Said) (g : Good room held p) where
+  well-line : (bytes : List ℕ) → Well room held (lineStep (walkAt held p) (firstLine bytes) (tablesAt room p))
+  well-line bytes = by (judgeAt room held p (firstLine bytes)) refl where
+    by : (v : Judged) → judgeAt room held p (firstLine bytes) ≡ v → Well room held (lineStep (walkAt held p) (firstLine bytes) (tablesAt room p))
+    by (refusal column number) e =
+        well-refused room held (notice number (length p + 1) column) _ (left-number number (refusal-numbered _ _ (firstLine bytes) column number e))
+        (line-refused room held allowed p g (firstLine bytes) column number e)
+    by (passed taken said) e =
+        let same = line-taken room held allowed p g (firstLine bytes) taken said e in
+        subst (Well room held) (sym same)
+        (reads room held allowed (said ∷ p) (taken-good room held allowed p g (firstLine bytes) taken said e) _ refl)
+
+  well-accepted : phaseAfter p ≡ AfterF → Well room held (leaves room held p (accepted (entriesIn p) (totalsIn p)))
+  well-accepted e = (
+    λ unfit-said. let z : _≡_ {A = ℕ} 0 72 = unfit-said in omega arith,
+    inr (inl (record {
+      allowed = allowed;
+      p = p;
+      good = g;
+      final = e;
+      walk = refl;
+      left = rw (length-replicate {A = ℕ} (room .ids) 0, length-pad noEmployer (room .list) (entriesIn p) (entries-within room held p g));
+    })),
+  )
+
+  well-phase : (phase : Phase) → phaseAfter p ≡ phase → Well room held (leaves room held p (outcomeBy (foundOn (length p + 1) (endTest phase)) p))
+  well-phase BeforeA e = well-refused room held (notice 5 (length p + 1) 1) _ (left-number 5 (omega arith, omega arith)) refl
+  well-phase AfterA e = well-refused room held (notice 6 (length p + 1) 1) _ (left-number 6 (omega arith, omega arith)) refl
+  well-phase EOpen e = well-refused room held (notice 7 (length p + 1) 1) _ (left-number 7 (omega arith, omega arith)) refl
+  well-phase AfterT e = well-refused room held (notice 8 (length p + 1) 1) _ (left-number 8 (omega arith, omega arith)) refl
+  well-phase AfterF e = well-accepted e
+
+  well-end : Well room held (endStep (walkAt held p) (tablesAt room p))
+  well-end = subst (Well room held) (sym (ends-by room held allowed p g)) (well-phase (phaseAfter p) refl)
+
+  well-reads : (call : Call) (o : Out) → o .walk ≡ walkAt held p → o .left ≡ tablesAt room p → Well room held (callStep call o)
+  well-reads (lineCall bytes) o walk left =
+      subst (Well room held) (sym (ap (λ (w : Walk). lineStep w (firstLine bytes) (o .left)) walk ∙ ap (lineStep (walkAt held p) (firstLine bytes)) left)) (well-line bytes)
+  well-reads endCall o walk left = subst (Well room held) (sym (ap (λ (w : Walk). endStep w (o .left)) walk ∙ ap (endStep (walkAt held p)) left)) well-end
+
+-- ---- from acceptance
+module _ (room : Room) (held : Quarter) (allowed : isAllowed held ≡ true) (p : List Said) (g : Good room held p) (last : phaseAfter p ≡ AfterF) where
+  accepted-fit : unfit room (acceptedAt held p) ≡ false
+  accepted-fit =
+      sound-fit room (acceptedAt held p) (file-sound-at room held p g allowed) (λ o. absurd (false≢true o))
+      (rw (allowed, still-reportable held p AfterF last refl (g .quarter)))
+
+  abbrev ended : Tables → Out
+  ended t = record { says = notice 71 0 0; taken = 0; walk = acceptedAt held p; left = t }
+
+  well-ended : (t : Tables) → roomOf t ≡ room → Well room held (ended t)
+  well-ended t same = (
+    λ unfit-said. let z : _≡_ {A = ℕ} 71 72 = unfit-said in omega arith,
+    inr (inl (record { allowed = allowed; p = p; good = g; final = last; walk = refl; left = same })),
+  )
+
+  ended-line : (line : Line) (t : Tables) → roomOf t ≡ room → lineStep (acceptedAt held p) line t ≡ ended t
+  unfolding lineSeen
+  ended-line line t same =
+      let fit : unfit (roomOf t) (acceptedAt held p) ≡ false = rw same accepted-fit in
+      rw fit
+
+  ended-end : (t : Tables) → roomOf t ≡ room → endStep (acceptedAt held p) t ≡ ended t
+  unfolding endMoved
+  ended-end t same =
+      let fit : unfit (roomOf t) (acceptedAt held p) ≡ false = rw same accepted-fit in
+      rw fit
+
+  well-accepted-call : (call : Call) (o : Out) → o .walk ≡ acceptedAt held p → roomOf (o .left) ≡ room → Well room held (callStep call o)
+  well-accepted-call (lineCall bytes) o walk same =
+      subst (Well room held) (sym (ap (λ (w : Walk). lineStep w (firstLine bytes) (o .left)) walk ∙ ended-line (firstLine bytes) (o .left) same)) (well-ended (o .left) same)
+  well-accepted-call endCall o walk same =
+      subst (Well room held) (sym (ap (λ (w : Walk). endStep w (o .left)) walk ∙ ended-end (o .left) same)) (well-ended (o .left) same)
+
+-- ---- from a refusal
+module _ (room : Room) (held : Quarter) (says : Notice) (number : isLeft (says .number) ≡ true) where
+  again-line : (line : Line) (t : Tables) → lineStep (refusedWalk says) line t ≡ carried (again says (refusedWalk says)) t
+  unfolding lineSeen
+  again-line line t = rw (refused-fit (roomOf t) says number)
+
+  again-end : (t : Tables) → endStep (refusedWalk says) t ≡ carried (again says (refusedWalk says)) t
+  unfolding endMoved
+  again-end t = rw (refused-fit (roomOf t) says number)
+
+  kept-room : (seventy : Bool) (t : Tables) → roomOf (written (if seventy then Nothing else Clear) t) ≡ roomOf t
+  kept-room true t = refl
+  kept-room false t = zeroed-room (roomOf t)
+
+  well-again : (t : Tables) → roomOf t ≡ room → Well room held (carried (again says (refusedWalk says)) t)
+  well-again t same = (
+    left-not-unfit (says .number) number,
+    inr (inr (record { says = says; number = number; walk = refl; left = kept-room (eqb (says .number) 70) t ∙ same })),
+  )
+
+  well-refused-call : (call : Call) (o : Out) → o .walk ≡ refusedWalk says → roomOf (o .left) ≡ room → Well room held (callStep call o)
+  well-refused-call (lineCall bytes) o walk same =
+      subst (Well room held) (sym (ap (λ (w : Walk). lineStep w (firstLine bytes) (o .left)) walk ∙ again-line (firstLine bytes) (o .left))) (well-again (o .left) same)
+  well-refused-call endCall o walk same =
+      subst (Well room held) (sym (ap (λ (w : Walk). endStep w (o .left)) walk ∙ again-end (o .left))) (well-again (o .left) same)
+
+-- ---- all together
+module _ (room : Room) (held : Quarter) where
+  well-call : (call : Call) (o : Out) → Unaltered room held o → Well room held (callStep call o)
+  well-call call o (inl at) = well-reads room held (at .allowed) (at .p) (at .good) call o (at .walk) (at .left)
+  well-call call o (inr (inl at)) = well-accepted-call room held (at .allowed) (at .p) (at .good) (at .final) call o (at .walk) (at .left)
+  well-call call o (inr (inr at)) = well-refused-call room held (at .says) (at .number) call o (at .walk) (at .left)
+
+  unaltered-after : (calls : List Call) (o : Out) → Unaltered room held o → Unaltered room held (afterCalls calls o)
+  unaltered-after [] o at = at
+  unaltered-after (call ∷ more) o at = unaltered-after more (callStep call o) (well-call call o at .1)
+
+opened-well : (held : Quarter) (t : Tables) → Unaltered (roomOf t) held (openStep held t)
+unfolding openMoved
+opened-well held t = at (isAllowed held) refl where
+  at : (allowed : Bool) → isAllowed held ≡ allowed → Unaltered (roomOf t) held (openStep held t)
+  at true e =
+      let opened = opened-at held t e in
+      inl (record { allowed = e; p = []; good = good-none (roomOf t) held; walk = opened .0; left = opened .1 })
+  at false e = inr (inr (record { says = notice 70 0 0; number = is-left-70; walk = rw e; left = rw e }))
+
+-- A walk from any opening, whatever its calls are lent, never answers 72 where the caller altered neither state nor tables.
+pub never-unfit : (held : Quarter) (t : Tables) (calls : List Call) (call : Call) → callStep call (afterCalls calls (openStep held t)) .says .number ≡ 72 → ⊥
+never-unfit held t calls call =
+    well-call (roomOf t) held call (afterCalls calls (openStep held t)) (unaltered-after (roomOf t) held calls (openStep held t) (opened-well held t)) .0
