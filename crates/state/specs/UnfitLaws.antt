@@ -1,16 +1,17 @@
 -- What a state that is not unfit is bounded by, and the other way: bounds that make a state fit.
 use Prim.Native.Nat.{ℕ, _*_, _≤_}
 use mathlib.Core.Bool.{Bool, true, false, _&&_, _||_, false≢true}
-use mathlib.Core.Path.{_≡_, refl, sym}
+use mathlib.Core.Path.{_≡_, refl, sym, ap, _∙_}
 use native.Mathlib.Omega.{arith}
 use lib.Dec.{ltb, eqb}
-use borrow.Author.Tests.{le-ltb, ltb-false, ne-eqb, eqb-false}
+use borrow.Author.Tests.{le-leb, le-ltb, ltb-false, ne-eqb, eqb-false}
+use Rattle.reason.specs.Numbers.{Notice}
 use Rattle.edits.specs.declared.Open.{Open}
 use Rattle.edits.specs.declared.Totals.{Totals}
 use Rattle.record.specs.Place.{mostEmployees}
 use Rattle.tables.specs.Room.{Room, entriesUsed}
-use Rattle.state.specs.Unfit.{mostLines, mostWages, mostFein, fileUnfit, openUnfit, isOpen, standingUnfit, unfit}
-use Rattle.state.specs.Walks.{Walk}
+use Rattle.state.specs.Unfit.{mostLines, mostWages, mostFein, fileUnfit, openUnfit, isOpen, isLeft, standingUnfit, unfit}
+use Rattle.state.specs.Walks.{Walk, refusedWalk}
 
 -- Of two tests of which none holds, neither holds.
 pub neither : (a b : Bool) → a || b ≡ false → (a ≡ false) × (b ≡ false)
@@ -140,3 +141,24 @@ module _ (room : Room) (walk : Walk) where
       → unfit room walk ≡ standingUnfit (walk .standing) (walk .held) (walk .filed)
   unfolding unfit
   unfit-standing e f = rw (e, f)
+
+-- ---- the numbers that a refusal leaves
+pub left-number : (number : ℕ) → (1 ≤ number) × (number ≤ 63) → isLeft number ≡ true
+unfolding isLeft
+left-number number within = rw (le-leb 1 number (within .0), le-leb number 63 (within .1))
+
+pub left-seventy : isLeft 70 ≡ true
+unfolding isLeft
+left-seventy = refl
+
+pub left-not-72 : (number : ℕ) → isLeft number ≡ true → number ≡ 72 → ⊥
+unfolding isLeft
+left-not-72 number e same = false≢true (ap isLeft (sym same) ∙ e)
+
+-- A refused state is fit where its number is one of them.
+pub refused-fit : (room : Room) (says : Notice) → isLeft (says .number) ≡ true → unfit room (refusedWalk says) ≡ false
+refused-fit room says e =
+    sound-fit room (refusedWalk says)
+    (record { employers = omega arith; many = omega arith; sum = omega arith; lines-read = omega arith })
+    (λ o. absurd (false≢true o))
+    (rw e)

@@ -1,6 +1,7 @@
 -- What a call answers, by cases: the state is unfit, or the answer rests on where the walk stands.
-use mathlib.Core.Bool.{true, false}
+use mathlib.Core.Bool.{Bool, true, false}
 use mathlib.Core.Path.{_≡_, ap}
+use Rattle.laws.specs.Choice.{if_then_else_}
 use Rattle.calendar.specs.Quarters.{isAllowed}
 use Rattle.calendar.specs.declared.Quarter.{Quarter}
 use Rattle.reason.specs.Numbers.{notice}
@@ -9,7 +10,7 @@ use Rattle.edits.specs.declared.Seen.{Seen}
 use Rattle.tables.specs.Room.{Room}
 use Rattle.state.specs.Unfit.{unfit}
 use Rattle.state.specs.Walks.{Standing, Walk, openedWalk, refusedWalk}
-use Rattle.step.specs.Moves.{allWell, stays, byStanding, lineSeen, endStanding, endMoved, openMoved}
+use Rattle.step.specs.Moves.{Moved, allWell, stays, byStanding, lineSeen, endStanding, endMoved, openMoved}
 use Rattle.step.specs.declared.Change.the-variants.{Nothing, Clear}
 
 module _ (room : Room) (walk : Walk) where
@@ -21,6 +22,22 @@ module _ (room : Room) (walk : Walk) where
       → lineSeen room seen walk line ≡ byStanding room seen line walk standing
   unfolding lineSeen
   line-fit seen line standing e stands = rw e (ap (byStanding room seen line walk) stands)
+
+  -- Whatever holds of 72 and of every standing holds of the line's answer.
+  pub line-cases : (P : Moved → Type 0) (seen : Seen) (line : Line) → P (stays 72 walk) → ((standing : Standing) → P (byStanding room seen line walk standing))
+      → P (lineSeen room seen walk line)
+  unfolding lineSeen
+  line-cases P seen line unfit-holds holds = at (unfit room walk) where
+    at : (b : Bool) → P (if b then stays 72 walk else byStanding room seen line walk (walk .standing))
+    at true = unfit-holds
+    at false = holds (walk .standing)
+
+  -- Two lines that are answered the same wherever the walk stands.
+  pub line-alike : (seen other : Seen) (line next : Line)
+      → ((standing : Standing) → byStanding room seen line walk standing ≡ byStanding room other next walk standing)
+      → lineSeen room seen walk line ≡ lineSeen room other walk next
+  unfolding lineSeen
+  line-alike seen other line next same = rw (same (walk .standing))
 
   pub end-unfit : unfit room walk ≡ true → endMoved room walk ≡ stays 72 walk
   unfolding endMoved

@@ -14,6 +14,7 @@ use Rattle.tables.specs.Laws.{among-none}
 use Rattle.tables.specs.Room.{Tables, roomOf}
 use Rattle.tables.specs.Tables.{isAmong, feinsOf}
 use Rattle.state.specs.Walks.{Standing, reading, accepted, refused, Walk}
+use Rattle.step.specs.MoveLaws.{line-alike}
 use Rattle.step.specs.Moves.{byVerdict, contextOf, byStanding, lineSeen, lineMoved}
 use Rattle.step.specs.Questions.{entriesAsked, idsAsked}
 use Rattle.step.specs.Steps.{listedFein, listedId}
@@ -44,8 +45,7 @@ module _ (walk : Walk) (t : Tables) where
 
   asked-line : (s : List ℕ) → lineSeen (roomOf t) (seenOn (listedFein walk t) (listedId walk t) (capitals s)) walk (firstLine s)
       ≡ lineMoved (roomOf t) (listedFein walk t) (listedId walk t) walk (firstLine s)
-  unfolding lineSeen
-  asked-line s = rw (asked-standing s (walk .standing))
+  asked-line s = line-alike (roomOf t) walk _ _ (firstLine s) (firstLine s) (asked-standing s)
 
   pub line-asked : (s : List ℕ) → lineSeen (roomOf t) (lookedUp (kindOn (capitals s)) (capitals s)) walk (firstLine s)
       ≡ lineMoved (roomOf t) (listedFein walk t) (listedId walk t) walk (firstLine s)

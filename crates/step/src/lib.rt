@@ -1,6 +1,6 @@
 // What opening, one line and the end answer and write, decided over values before any table is touched.
 pub mod line;
-mod passing;
+mod reading;
 
 use calendar::Quarter;
 use edits::Phase;

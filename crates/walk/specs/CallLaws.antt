@@ -26,7 +26,8 @@ use Rattle.meaning.specs.Meaning.{onEarlierE, underThisE, judgeAt}
 use Rattle.state.specs.Unfit.{isOpen, standingUnfit, unfit}
 use Rattle.state.specs.UnfitLaws.{FileSound, sound-fit}
 use Rattle.state.specs.Walks.{Standing, reading, accepted, refused, Walk}
-use Rattle.step.specs.Moves.{Moved, byVerdict, byStanding, lineSeen, lineMoved, endVerdict, endMoved}
+use Rattle.step.specs.MoveLaws.{line-alike, line-fit, end-fit}
+use Rattle.step.specs.Moves.{Moved, byVerdict, byStanding, lineMoved, endVerdict, endMoved}
 use Rattle.step.specs.Steps.{carried, listedFein, listedId, lineStep, endStep}
 use Rattle.walk.specs.At.{walkAt, tablesAt, begun, done, Good}
 use Rattle.walk.specs.GoodLaws.{length-snoc, entries-open}
@@ -42,8 +43,7 @@ module _ (room : Room) (earlier under : ℕ → Bool) (m : ℕ) (s : List ℕ) (
   same-standing walk (refused says) = refl
 
   same-line : (walk : Walk) → lineMoved room earlier under walk (firstLine (take m s)) ≡ lineMoved room earlier under walk (firstLine s)
-  unfolding lineSeen
-  same-line walk = rw (same-standing walk (walk .standing))
+  same-line walk = line-alike room walk _ _ (firstLine (take m s)) (firstLine s) (same-standing walk)
 
 -- A call that is lent a part of what remains, at least 292 bytes, answers and leaves what it would if it were lent all: for every state, every
 -- content of the tables and every bytes.
@@ -106,8 +106,7 @@ module _ (room : Room) (held : Quarter) (p : List Said) (g : Good room held p) (
       (quarters-fit (phaseAfter p) held (filedIn p) allowed (g .quarter))
 
   fit-line : (line : Line) → lineMoved room (onEarlierE p) (underThisE p) (walkAt held p) line ≡ byVerdict (walkAt held p) (judgeAt room held p line)
-  unfolding lineSeen
-  fit-line line = rw fit-at
+  fit-line line = line-fit room (walkAt held p) _ line (reading (phaseAfter p)) fit-at refl
 
   -- The tables tell a line what the records before it tell.
   moved-at : (line : Line) → lineMoved (roomOf (tablesAt room p)) (listedFein (walkAt held p) (tablesAt room p)) (listedId (walkAt held p) (tablesAt room p)) (walkAt held p) line
@@ -125,8 +124,8 @@ module _ (room : Room) (held : Quarter) (p : List Said) (g : Good room held p) (
   line-at line = ap (λ (moved : Moved). carried moved (tablesAt room p)) (moved-at line)
 
   ended-at : endMoved (roomOf (tablesAt room p)) (walkAt held p) ≡ endVerdict (walkAt held p) (firstBroken (endEdits (phaseAfter p)))
-  unfolding endMoved
-  ended-at = rw (room-at room held p g, fit-at)
+  ended-at =
+      ap (λ (r : Room). endMoved r (walkAt held p)) (room-at room held p g) ∙ end-fit room (walkAt held p) (reading (phaseAfter p)) fit-at refl
 
   pub end-at : endStep (walkAt held p) (tablesAt room p) ≡ carried (endVerdict (walkAt held p) (firstBroken (endEdits (phaseAfter p)))) (tablesAt room p)
   end-at = ap (λ (moved : Moved). carried moved (tablesAt room p)) ended-at

@@ -7,7 +7,6 @@ use lib.ListN.{length, take}
 use Rattle.calendar.specs.declared.Quarter.{Quarter}
 use Rattle.chars.specs.Characters.{capitals}
 use Rattle.lines.specs.Lines.{firstLine}
-use Rattle.edits.specs.declared.Seen.{Seen}
 use Rattle.record.specs.Judge.{kindOn, feinOn, idOn}
 use Rattle.tables.specs.Laws.{entries-length}
 use Rattle.tables.specs.Room.{Room, Tables, tables, roomOf}
@@ -16,7 +15,7 @@ use Rattle.state.specs.Walks.{Walk}
 use Rattle.step.specs.Moves.{Moved, movedBy, lineSeen, endMoved, openMoved}
 use Rattle.step.specs.QuestionLaws.{lookedUp, line-asked}
 use Rattle.step.specs.Questions.{entriesAsked, idsAsked}
-use Rattle.step.specs.Steps.{Out, written, carried, outOf, openStep, lineStep, endStep}
+use Rattle.step.specs.Steps.{written, carried, outOf, openStep, lineStep, endStep}
 use Rattle.step.specs.declared.Move.{Move}
 
 module _ (m : Move) (ids : List ℕ) (rows : List (List ℕ)) where

@@ -1,12 +1,12 @@
 -- walk-means: for every file, quarter, table lengths and lending, the calls answer and leave what the file means.
 use Prim.Native.Nat.{ℕ, zero, suc, _+_, _-_, _≤_}
-use mathlib.Core.Bool.{Bool, true, false, false≢true}
+use mathlib.Core.Bool.{Bool, true, false}
 use mathlib.Core.List.{List, [], _∷_}
 use mathlib.Core.Path.{_≡_, refl, sym, ap, subst, _∙_}
 use native.Mathlib.Omega.{arith}
 use lib.Dec.{eqb}
 use lib.ListN.{length, take, length-replicate}
-use borrow.Author.Tests.{ne-eqb, le-leb}
+use borrow.Author.Tests.{ne-eqb}
 use Rattle.laws.specs.Choice.{if_then_else_}
 use Rattle.laws.specs.Finding.{Finding}
 use Rattle.reason.specs.Numbers.{Notice, notice}
@@ -30,10 +30,12 @@ use Rattle.tables.specs.Tables.{noEmployer}
 use Rattle.meaning.specs.Before.{phaseAfter, totalsIn, entriesIn}
 use Rattle.meaning.specs.FileLaws.{onto-nil, onto-cons, meaning-end, meaning-refuses, meaning-goes-on}
 use Rattle.meaning.specs.Meaning.{contextAt, onEarlierE, underThisE, judgeAt, foundOn, recordsOnto, accepted, refused, outcomeBy, meaningFrom}
-use Rattle.state.specs.Unfit.{isLeft, unfit}
-use Rattle.state.specs.UnfitLaws.{sound-fit}
+use Rattle.state.specs.Unfit.{isLeft}
+use Rattle.state.specs.UnfitLaws.{left-number, left-seventy, refused-fit}
+use Rattle.state.specs.Walks as walks
 use Rattle.state.specs.Walks.{refusedWalk}
-use Rattle.step.specs.Moves.{lineSeen, Moved, allWell, again, refuses, accepts, byVerdict, endVerdict, endMoved, openMoved}
+use Rattle.step.specs.MoveLaws.{line-fit, end-fit, open-allowed, open-refused}
+use Rattle.step.specs.Moves.{Moved, allWell, again, refuses, accepts, byVerdict, endVerdict}
 use Rattle.step.specs.Steps.{Out, carried, lineStep, endStep}
 use Rattle.walk.specs.At.{walkAt, tablesAt, Good}
 use Rattle.walk.specs.CallLaws.{pieces-are-whole, line-at, end-at}
@@ -42,22 +44,13 @@ use Rattle.walk.specs.GoodLaws.{good-none, good-more}
 use Rattle.walk.specs.StepLaws.{room-at, after-said, wrote, ids-none}
 
 -- ---- a refused walk
-pub left-number : (number : ℕ) → (1 ≤ number) × (number ≤ 63) → isLeft number ≡ true
-unfolding isLeft
-left-number number within = rw (le-leb 1 number (within .0), le-leb number 63 (within .1))
-
--- Its state is fit where its number is one that a refusal leaves.
-pub refused-fit : (room : Room) (says : Notice) → isLeft (says .number) ≡ true → unfit room (refusedWalk says) ≡ false
-refused-fit room says e =
-    sound-fit room (refusedWalk says)
-    (record { employers = omega arith; many = omega arith; sum = omega arith; lines-read = omega arith })
-    (λ o. absurd (false≢true o))
-    (rw e)
-
 -- Called again it answers the same, and both tables are zeroed again; after 70 nothing is touched.
-again-end : (room : Room) (says : Notice) → isLeft (says .number) ≡ true → endMoved room (refusedWalk says) ≡ again says (refusedWalk says)
-unfolding endMoved
-again-end room says e = rw (refused-fit room says e)
+pub again-line : (says : Notice) → isLeft (says .number) ≡ true → (line : Line) (t : Tables) → lineStep (refusedWalk says) line t ≡ carried (again says (refusedWalk says)) t
+again-line says e line t =
+    ap (λ (moved : Moved). carried moved t) (line-fit (roomOf t) (refusedWalk says) _ line (walks.refused says) (refused-fit (roomOf t) says e) refl)
+
+pub again-end : (says : Notice) → isLeft (says .number) ≡ true → (t : Tables) → endStep (refusedWalk says) t ≡ carried (again says (refusedWalk says)) t
+again-end says e t = ap (λ (moved : Moved). carried moved t) (end-fit (roomOf t) (refusedWalk says) (walks.refused says) (refused-fit (roomOf t) says e) refl)
 
 not-seventy : (number : ℕ) → (1 ≤ number) × (number ≤ 63) → eqb number 70 ≡ false
 not-seventy number within = ne-eqb number 70 (λ e. omega (arith, within))
@@ -66,7 +59,7 @@ not-seventy number within = ne-eqb number 70 (λ e. omega (arith, within))
 end-refused : (room : Room) (says : Notice) → (1 ≤ says .number) × (says .number ≤ 63)
     → endStep (refusedWalk says) (zeroed room) ≡ refusedWith says room
 end-refused room says within =
-    ap (λ (moved : Moved). carried moved (zeroed room)) (again-end (roomOf (zeroed room)) says (left-number (says .number) within))
+    again-end says (left-number (says .number) within) (zeroed room)
     ∙ rw (not-seventy (says .number) within, length-replicate, length-replicate)
 
 -- What the calls do with the answer of a line.
@@ -157,13 +150,13 @@ module _ (room : Room) (held : Quarter) (allowed : isAllowed held ≡ true) wher
         ∙ ap (leaves room held _) (sym (meaning-goes-on room held p line (linesFrom (sizeOf line - 1) rest) taken said e)))
 
     -- From any records that were taken, the calls leave what the rest of the file means.
-    walks : (bytes : List ℕ) → Walks bytes
+    walks-on : (bytes : List ℕ) → Walks bytes
     unfolding calls
-    walks [] skip p g = rw (from-nil skip) (ends p g ∙ ap (λ (q : List Said). leaves room held q (meaningFrom room held p [])) (sym (onto-nil p)))
-    walks (b ∷ rest) (suc skip) p g = rw (from-skip skip b rest) (walks rest skip p g)
-    walks (b ∷ rest) zero p g =
+    walks-on [] skip p g = rw (from-nil skip) (ends p g ∙ ap (λ (q : List Said). leaves room held q (meaningFrom room held p [])) (sym (onto-nil p)))
+    walks-on (b ∷ rest) (suc skip) p g = rw (from-skip skip b rest) (walks-on rest skip p g)
+    walks-on (b ∷ rest) zero p g =
         ap (next lend rest) (pieces-are-whole (walkAt held p) (tablesAt room p) (lend (length (b ∷ rest))) (b ∷ rest) (lent (b ∷ rest)))
-        ∙ rw (from-line b rest) (goes rest (walks rest) p g (firstLine (b ∷ rest)) (judgeAt room held p (firstLine (b ∷ rest))) refl)
+        ∙ rw (from-line b rest) (goes rest (walks-on rest) p g (firstLine (b ∷ rest)) (judgeAt room held p (firstLine (b ∷ rest))) refl)
 
 -- ---- an opening that is refused
 module _ (t : Tables) where
@@ -174,22 +167,10 @@ module _ (t : Tables) where
   abbrev untouched : Out
   untouched = record { says = seventy; taken = 0; walk = refusedWalk seventy; left = t }
 
-  is-left : isLeft 70 ≡ true
-  unfolding isLeft
-  is-left = refl
-
-  pub end-seventy : endStep (refusedWalk seventy) t ≡ untouched
-  unfolding endMoved
-  end-seventy = rw (refused-fit (roomOf t) seventy is-left)
-
-  pub line-seventy : (line : Line) → lineStep (refusedWalk seventy) line t ≡ untouched
-  unfolding lineSeen
-  line-seventy line = rw (refused-fit (roomOf t) seventy is-left)
-
   calls-seventy : (lend : ℕ → ℕ) (file : List ℕ) → calls lend 0 file (refusedWalk seventy) t ≡ untouched
   unfolding calls
-  calls-seventy lend [] = end-seventy
-  calls-seventy lend (b ∷ rest) = ap (next lend rest) (line-seventy (firstLine (take (lend (length (b ∷ rest))) (b ∷ rest)))) ∙ end-seventy
+  calls-seventy lend [] = again-end seventy left-seventy t
+  calls-seventy lend (b ∷ rest) = ap (next lend rest) (again-line seventy left-seventy (firstLine (take (lend (length (b ∷ rest))) (b ∷ rest))) t) ∙ again-end seventy left-seventy t
 
 -- ---- the theorem
 pub from-start : (room : Room) → tablesAt room [] ≡ zeroed room
@@ -198,9 +179,8 @@ from-start room = rw (pad-none {A = ℕ} 0 (room .ids), pad-none noEmployer (roo
 -- Opening, line calls and one end call, whatever each is lent, answer and leave what the file means: the sentence in the manual. For a quarter
 -- that is refused they answer 70 and leave everything as it was.
 pub walk-means : (lend : ℕ → ℕ) → Lending lend → (held : Quarter) (file : List ℕ) (t : Tables) → walked lend held file t ≡ wholeFile held file t
-unfolding openMoved
 walk-means lend lending held file t = at (isAllowed held) refl where
   at : (allowed : Bool) → isAllowed held ≡ allowed → walked lend held file t ≡ wholeFile held file t
   at true e =
-      rw (e, ← from-start (roomOf t)) (walks (roomOf t) held e lend lending file 0 [] (good-none (roomOf t) held))
-  at false e = rw e (calls-seventy t lend file)
+      rw (open-allowed held e, e, ← from-start (roomOf t)) (walks-on (roomOf t) held e lend lending file 0 [] (good-none (roomOf t) held))
+  at false e = rw (open-refused held e, e) (calls-seventy t lend file)

@@ -24,17 +24,18 @@ use Rattle.tables.specs.Tables.{noEmployer}
 use Rattle.meaning.specs.Before.{phaseAfter, totalsIn, entriesIn}
 use Rattle.meaning.specs.Meaning.{judgeAt, foundOn, accepted, refused, outcomeBy}
 use Rattle.state.specs.Unfit.{isLeft, unfit}
-use Rattle.state.specs.UnfitLaws.{sound-fit}
+use Rattle.state.specs.UnfitLaws.{left-number, left-seventy, left-not-72, sound-fit}
 use Rattle.state.specs.Walks as walks
 use Rattle.state.specs.Walks.{Walk, refusedWalk}
-use Rattle.step.specs.Moves.{allWell, again, lineSeen, endMoved, openMoved}
+use Rattle.step.specs.MoveLaws.{line-fit, end-fit, open-refused}
+use Rattle.step.specs.Moves.{Moved, allWell, again}
 use Rattle.step.specs.Steps.{Out, written, carried, openStep, lineStep, endStep}
 use Rattle.step.specs.declared.Change.the-variants.{Nothing, Clear}
 use Rattle.walk.specs.At.{walkAt, acceptedAt, tablesAt, Good}
 use Rattle.walk.specs.Calls.{refusedWith, leaves}
 use Rattle.walk.specs.CallLaws.{file-sound-at}
 use Rattle.walk.specs.GoodLaws.{good-none, still-reportable}
-use Rattle.walk.specs.Means.{left-number, refused-fit, ends-by, line-refused, line-taken, taken-good}
+use Rattle.walk.specs.Means.{again-line, again-end, ends-by, line-refused, line-taken, taken-good}
 use Rattle.walk.specs.StepLaws.{entries-within}
 use Rattle.walk.specs.TablesAt.{opened-at}
 
@@ -80,21 +81,12 @@ Unaltered room held o = Reads room held o ⊎ (Ended room held o ⊎ Stopped roo
 abbrev Well : Room → Quarter → Out → Type 0
 Well room held o = (o .says .number ≡ 72 → ⊥) × Unaltered room held o
 
--- A number that a refusal leaves is not 72.
-left-not-unfit : (number : ℕ) → isLeft number ≡ true → number ≡ 72 → ⊥
-unfolding isLeft
-left-not-unfit number e same = false≢true (ap isLeft (sym same) ∙ e)
-
-is-left-70 : isLeft 70 ≡ true
-unfolding isLeft
-is-left-70 = refl
-
 zeroed-room : (room : Room) → roomOf (zeroed room) ≡ room
 zeroed-room room = rw (length-replicate {A = ℕ} (room .ids) 0, length-replicate (room .list) noEmployer)
 
 well-refused : (room : Room) (held : Quarter) (says : Notice) (o : Out) → isLeft (says .number) ≡ true → o ≡ refusedWith says room → Well room held o
 well-refused room held says o e same = (
-  λ unfit-said. left-not-unfit (says .number) e (sym (ap (λ (x : Out). x .says .number) same) ∙ unfit-said),
+  λ unfit-said. left-not-72 (says .number) e (sym (ap (λ (x : Out). x .says .number) same) ∙ unfit-said),
   inr (inr (record {
     says = says;
     number = e;
@@ -174,16 +166,14 @@ module _ (room : Room) (held : Quarter) (allowed : isAllowed held ≡ true) (p :
   )
 
   ended-line : (line : Line) (t : Tables) → roomOf t ≡ room → lineStep (acceptedAt held p) line t ≡ ended t
-  unfolding lineSeen
   ended-line line t same =
       let fit : unfit (roomOf t) (acceptedAt held p) ≡ false = rw same accepted-fit in
-      rw fit
+      ap (λ (moved : Moved). carried moved t) (line-fit (roomOf t) (acceptedAt held p) _ line walks.accepted fit refl)
 
   ended-end : (t : Tables) → roomOf t ≡ room → endStep (acceptedAt held p) t ≡ ended t
-  unfolding endMoved
   ended-end t same =
       let fit : unfit (roomOf t) (acceptedAt held p) ≡ false = rw same accepted-fit in
-      rw fit
+      ap (λ (moved : Moved). carried moved t) (end-fit (roomOf t) (acceptedAt held p) walks.accepted fit refl)
 
   well-accepted-call : (call : Call) (o : Out) → o .walk ≡ acceptedAt held p → roomOf (o .left) ≡ room → Well room held (callStep call o)
   well-accepted-call (lineCall bytes) o walk same =
@@ -193,29 +183,21 @@ module _ (room : Room) (held : Quarter) (allowed : isAllowed held ≡ true) (p :
 
 -- ---- from a refusal
 module _ (room : Room) (held : Quarter) (says : Notice) (number : isLeft (says .number) ≡ true) where
-  again-line : (line : Line) (t : Tables) → lineStep (refusedWalk says) line t ≡ carried (again says (refusedWalk says)) t
-  unfolding lineSeen
-  again-line line t = rw (refused-fit (roomOf t) says number)
-
-  again-end : (t : Tables) → endStep (refusedWalk says) t ≡ carried (again says (refusedWalk says)) t
-  unfolding endMoved
-  again-end t = rw (refused-fit (roomOf t) says number)
-
   kept-room : (seventy : Bool) (t : Tables) → roomOf (written (if seventy then Nothing else Clear) t) ≡ roomOf t
   kept-room true t = refl
   kept-room false t = zeroed-room (roomOf t)
 
   well-again : (t : Tables) → roomOf t ≡ room → Well room held (carried (again says (refusedWalk says)) t)
   well-again t same = (
-    left-not-unfit (says .number) number,
+    left-not-72 (says .number) number,
     inr (inr (record { says = says; number = number; walk = refl; left = kept-room (eqb (says .number) 70) t ∙ same })),
   )
 
   well-refused-call : (call : Call) (o : Out) → o .walk ≡ refusedWalk says → roomOf (o .left) ≡ room → Well room held (callStep call o)
   well-refused-call (lineCall bytes) o walk same =
-      subst (Well room held) (sym (ap (λ (w : Walk). lineStep w (firstLine bytes) (o .left)) walk ∙ again-line (firstLine bytes) (o .left))) (well-again (o .left) same)
+      subst (Well room held) (sym (ap (λ (w : Walk). lineStep w (firstLine bytes) (o .left)) walk ∙ again-line says number (firstLine bytes) (o .left))) (well-again (o .left) same)
   well-refused-call endCall o walk same =
-      subst (Well room held) (sym (ap (λ (w : Walk). endStep w (o .left)) walk ∙ again-end (o .left))) (well-again (o .left) same)
+      subst (Well room held) (sym (ap (λ (w : Walk). endStep w (o .left)) walk ∙ again-end says number (o .left))) (well-again (o .left) same)
 
 -- ---- all together
 module _ (room : Room) (held : Quarter) where
@@ -229,13 +211,12 @@ module _ (room : Room) (held : Quarter) where
   unaltered-after (call ∷ more) o at = unaltered-after more (callStep call o) (well-call call o at .1)
 
 opened-well : (held : Quarter) (t : Tables) → Unaltered (roomOf t) held (openStep held t)
-unfolding openMoved
 opened-well held t = at (isAllowed held) refl where
   at : (allowed : Bool) → isAllowed held ≡ allowed → Unaltered (roomOf t) held (openStep held t)
   at true e =
       let opened = opened-at held t e in
       inl (record { allowed = e; p = []; good = good-none (roomOf t) held; walk = opened .0; left = opened .1 })
-  at false e = inr (inr (record { says = notice 70 0 0; number = is-left-70; walk = rw e; left = rw e }))
+  at false e = inr (inr (record { says = notice 70 0 0; number = left-seventy; walk = rw (open-refused held e); left = rw (open-refused held e) }))
 
 -- A walk from any opening, whatever its calls are lent, never answers 72 where the caller altered neither state nor tables.
 pub never-unfit : (held : Quarter) (t : Tables) (calls : List Call) (call : Call) → callStep call (afterCalls calls (openStep held t)) .says .number ≡ 72 → ⊥

@@ -12,7 +12,7 @@ use Rattle.record.specs.declared.said.Said.{Said}
 use Rattle.tables.specs.Room.{Room, Tables, tables, roomOf}
 use Rattle.meaning.specs.Meaning.{contextAt, onEarlierE, underThisE, judgeAt}
 use Rattle.state.specs.Walks as walks
-use Rattle.step.specs.Moves.{openMoved}
+use Rattle.step.specs.MoveLaws.{open-allowed}
 use Rattle.step.specs.Steps.{Out, openStep, lineStep}
 use Rattle.walk.specs.At.{walkAt, tablesAt, Good}
 use Rattle.walk.specs.GoodLaws.{good-none}
@@ -58,8 +58,7 @@ module _ (room : Room) (held : Quarter) (allowed : isAllowed held ≡ true) wher
       taken-at more (recordOn (firstLine bytes) ∷ p) (one .0) (lineStep (o .walk) (firstLine bytes) (o .left)) (one .1) (all .1)
 
 pub opened-at : (held : Quarter) (t : Tables) → isAllowed held ≡ true → (openStep held t .walk ≡ walkAt held []) × (openStep held t .left ≡ tablesAt (roomOf t) [])
-unfolding openMoved
-opened-at held t e = (rw e, rw e (sym (from-start (roomOf t))))
+opened-at held t e = (rw (open-allowed held e), rw (open-allowed held e) (sym (from-start (roomOf t))))
 
 -- After any lines that were taken the state and both tables are what the records before say: while an E is open the id table holds its numbers in file
 -- order, then zeros, and all zeros if none is open; entries are FEIN, 0, 0 until their T (`tablesAt`).

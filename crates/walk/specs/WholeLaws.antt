@@ -1,5 +1,5 @@
 -- The calls of a loop over a whole file: each is lent all that remains.
-use Prim.Native.Nat.{ℕ, zero, suc, _-_, _≤_, _<_}
+use Prim.Native.Nat.{ℕ, zero, suc, _+_, _-_, _≤_, _<_}
 use mathlib.Core.Bool.{Bool, true, false}
 use mathlib.Core.List.{List, [], _∷_}
 use mathlib.Core.Logic.{inr}
@@ -8,8 +8,8 @@ use native.Mathlib.Nat.{le-refl}
 use native.Mathlib.Numerals.{sub-one}
 use native.Mathlib.Omega.{arith}
 use lib.Dec.{eqb}
-use lib.ListN.{length, take, drop}
-use lib.Seq.{take-all}
+use lib.ListN.{length, take, drop, length-drop, drop-of-length-le}
+use lib.Seq.{take-all, drop-drop}
 use borrow.Author.Tests.{eq-eqb, ne-eqb, eqb-false}
 use Rattle.laws.specs.Choice.{if_then_else_}
 use Rattle.calendar.specs.declared.Quarter.{Quarter}
@@ -21,9 +21,9 @@ use Rattle.record.specs.Among.{passed-size}
 use Rattle.record.specs.Judge.{Judged, refusal, passed, seenOn, judgeAmong}
 use Rattle.record.specs.declared.said.Said.{Said}
 use Rattle.tables.specs.Room.{Room, Tables, roomOf}
-use Rattle.state.specs.Unfit.{unfit}
 use Rattle.state.specs.Walks.{Standing, reading, accepted, refused, Walk}
-use Rattle.step.specs.Moves.{stays, byVerdict, contextOf, byStanding, lineSeen, lineMoved}
+use Rattle.step.specs.MoveLaws.{line-cases}
+use Rattle.step.specs.Moves.{Moved, byVerdict, contextOf, byStanding, lineMoved}
 use Rattle.step.specs.Steps.{Out, listedFein, listedId, openStep, lineStep, endStep}
 use Rattle.walk.specs.Calls.{Lending, calls, wholeFile}
 use Rattle.walk.specs.Means.{next, walk-means}
@@ -97,11 +97,35 @@ module _ (room : Room) (earlier under : ℕ → Bool) (walk : Walk) (s : List �
   standing-within (refused says) = omega arith
 
   moved-within : lineMoved room earlier under walk (firstLine s) .taken ≤ length s
-  unfolding lineSeen
-  moved-within = at (unfit room walk) where
-    at : (b : Bool) → (if b then stays 72 walk else byStanding room (seenOn earlier under (capitals (firstLine s .text))) (firstLine s) walk (walk .standing)) .taken ≤ length s
-    at true = omega arith
-    at false = standing-within (walk .standing)
+  moved-within = line-cases room walk (λ (moved : Moved). moved .taken ≤ length s) _ (firstLine s) (omega arith) standing-within
 
 pub taken-within : (walk : Walk) (t : Tables) (s : List ℕ) → lineStep walk (firstLine s) t .taken ≤ length s
 taken-within walk t s = moved-within (roomOf t) (listedFein walk t) (listedId walk t) walk s
+
+-- ---- the loop: the call at a place of the file is lent the part from there to the end
+rest : (at : ℕ) (s : List ℕ) → take (length s - at) (drop at s) ≡ drop at s
+rest at s = take-all (length s - at) (drop at s) (simp length-drop (omega arith))
+
+pub loop-done : (file : List ℕ) (at : ℕ) (walk : Walk) (t : Tables) → length file ≤ at → calls all 0 (drop at file) walk t ≡ endStep walk t
+loop-done file at walk t h = ap (λ (s : List ℕ). calls all 0 s walk t) (drop-of-length-le file {i = at} h) ∙ calls-end walk t
+
+module _ (file : List ℕ) (at : ℕ) (walk : Walk) (t : Tables) (o : Out) (within : at < length file)
+    (e : o ≡ lineStep walk (firstLine (take (length file - at) (drop at file))) t) where
+  from-here : o ≡ lineStep walk (firstLine (drop at file)) t
+  from-here = e ∙ ap (λ (s : List ℕ). lineStep walk (firstLine s) t) (rest at file)
+
+  some-left : 0 < length (drop at file)
+  some-left = simp length-drop (omega arith)
+
+  pub loop-refused : o .taken ≡ 0 → calls all 0 (drop at file) walk t ≡ endStep (o .walk) (o .left)
+  loop-refused none = calls-refused walk t (drop at file) some-left o from-here none
+
+  pub loop-within : at + o .taken ≤ length file
+  loop-within =
+      let taken : o .taken ≤ length (drop at file) = rw from-here (taken-within walk t (drop at file)) in
+      omega (arith, rw length-drop at taken)
+
+  pub loop-taken : (o .taken ≡ 0 → ⊥) → calls all 0 (drop at file) walk t ≡ calls all 0 (drop (at + o .taken) file) (o .walk) (o .left)
+  loop-taken some =
+      calls-taken walk t (drop at file) some-left o from-here some
+      ∙ ap (λ (s : List ℕ). calls all 0 s (o .walk) (o .left)) (drop-drop (o .taken) at file)

@@ -1,36 +1,21 @@
+-- `walk::open` meets its contract.
 use borrow.Author.Needs.{needs}
-use Rattle.walk.specs.Carry.{open-carried}
-use Rattle.state.specs.Walks.{walkOf}
-use borrow.Author.Needs.{needs}
-use Rattle.walk.proofs.open.Statement.{statement}
-use Rattle.walk.proofs.open.Tie as tie
-use Rattle.walk.proofs.open.Reads as reads
-use Rattle.walk.proofs.open.Lts as lts
 use Rattle.step.proofs.open_move.Reads as open-move-reads
 use Rattle.walk.proofs.change_ids.Reads as change-ids-reads
 use Rattle.walk.proofs.change_list.Reads as change-list-reads
+use Rattle.walk.proofs.open.Statement.{statement}
+use Rattle.walk.proofs.open.Tie as tie
+use Rattle.walk.specs.Carry.{open-carried}
 
--- src/lib.rt:112:9
 open-move-requires : tie.Need-open-move-requires
 open-move-requires c κs = search needs
 
--- src/lib.rt:114:5
 change-ids-requires : tie.Need-change-ids-requires
 change-ids-requires c κs = search needs
 
--- src/lib.rt:115:5
 change-list-requires : tie.Need-change-list-requires
 change-list-requires c κs = search needs
 
--- src/lib.rt:109:1
-same-length : tie.Need-same-length
-same-length c = search needs
-
--- src/lib.rt:109:1
-same-length-2 : tie.Need-same-length-2
-same-length-2 c = search needs
-
--- src/lib.rt:109:1
 returns : tie.Need-returns
 returns c = rw (c .before .before .before .before .before .before .change-ids .ensures, c .before .before .change-list .ensures) (open-carried (c .before .before .before .before .before .before .before .before .open-move .result) (c .before .before .before .before .before .before .before .before .before .before .args .ids .now) (c .before .before .before .before .before .before .before .before .before .before .args .list .now) (c .before .before .before .before .before .before .before .before .before .before .args .held) (c .before .before .before .before .before .before .before .before .open-move .ensures))
 
@@ -38,9 +23,4 @@ pub open-spec : {M : Type 1} → statement M
 open-spec =
     tie.close
     (tie.spec
-    open-move-requires
-    change-ids-requires
-    change-list-requires
-    same-length
-    same-length-2
-    returns)
+    open-move-requires change-ids-requires change-list-requires (λ c. search needs) (λ c. search needs) returns)

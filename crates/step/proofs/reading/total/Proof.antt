@@ -1,7 +1,7 @@
--- `step::passing::total` meets its contract.
+-- `step::reading::total` meets its contract.
 use borrow.Author.Needs.{needs}
-use Rattle.step.proofs.passing.total.Statement.{statement}
-use Rattle.step.proofs.passing.total.Tie as tie
+use Rattle.step.proofs.reading.total.Statement.{statement}
+use Rattle.step.proofs.reading.total.Tie as tie
 
 returns : tie.Need-returns
 returns c = rw (c .moves .ensures, c .before .before .after .ensures, c .before .before .before .none-open .ensures)

@@ -1,7 +1,7 @@
--- `step::passing::last` meets its contract.
+-- `step::reading::last` meets its contract.
 use borrow.Author.Needs.{needs}
-use Rattle.step.proofs.passing.last.Statement.{statement}
-use Rattle.step.proofs.passing.last.Tie as tie
+use Rattle.step.proofs.reading.last.Statement.{statement}
+use Rattle.step.proofs.reading.last.Tie as tie
 
 returns : tie.Need-returns
 returns c = rw (c .moves .ensures, c .before .after .ensures, c .before .before .none-open .ensures)

@@ -1,24 +1,31 @@
-// What a record that passes its edits leaves in the state, and what it writes.
+// A line is read: its verdict, and what a record that passes its edits leaves in the state and writes.
 use crate::Answer;
 use crate::Change;
 use crate::Move;
 use crate::Reply;
 use calendar::Quarter;
+use edits::Context;
 use edits::Open;
 use edits::Phase;
+use edits::Seen;
 use edits::Totals;
+use reason::Reason;
+use record::Verdict;
 use record::said::EmployeeOn;
 use record::said::EmployerOn;
 use record::said::Said;
 use state::Stage;
 use state::State;
+use state::fitness;
 ghost use Prim.Native.Nat.{_≤_};
+ghost use mathlib.Core.Bool.{false};
 ghost use mathlib.Core.Path.{_≡_};
+ghost use Rattle.lines.specs.Lines.{firstLine};
 ghost use Rattle.meaning.specs.Before.{withOne, oneEmployee};
-ghost use Rattle.state.specs.Walks.{walkOf};
-ghost use Rattle.step.specs.Moves.{movedBy, allWell, after as afterOf, goesOn};
+ghost use Rattle.state.specs.Unfit.{mostLines, unfit};
+ghost use Rattle.state.specs.Walks.{reading, walkOf};
+ghost use Rattle.step.specs.Moves.{movedBy, allWell, after as afterOf, goesOn, contextOf, byStanding, lineSeen};
 ghost use Rattle.step.specs.Ready.{Ready};
-ghost use Rattle.state.specs.Unfit.{mostLines};
 
 // One line more.
 fn after(st: State, phase: Phase, filed: Quarter, e: Open, all: Totals, used: usize) -> State
@@ -142,7 +149,7 @@ fn last(st: State, taken: usize) -> Move
 }
 
 // The record says what it says: the walk goes on behind its line.
-pub fn go_on(st: State, taken: usize, said: Said) -> Move
+fn go_on(st: State, taken: usize, said: Said) -> Move
     requires { ⌜ Ready (walkOf st) said ⌝ }
     ensures { λ r. ⌜ movedBy r ≡ goesOn (walkOf st) taken said ⌝ }
 {
@@ -153,5 +160,50 @@ pub fn go_on(st: State, taken: usize, said: Said) -> Move
         Said::OfT => total(st, taken),
         Said::OfF => last(st, taken),
         Said::OfNone => moves(st, taken, Change::Nothing),
+    }
+}
+
+fn context(st: State, phase: Phase, ids: usize, list: usize) -> Context
+    ensures { λ r. ⌜ r ≡ contextOf (record { ids = ids; list = list }) (walkOf st) phase ⌝ }
+{
+    let held = st.held;
+    let filed = st.filed;
+    let open = st.open;
+    let all = st.all;
+    Context {
+        phase,
+        held,
+        filed,
+        open,
+        all,
+        ids_full: ids <= st.used,
+        list_full: fitness::entries_used(list) <= all.employers,
+    }
+}
+
+fn read_line(st: State, phase: Phase, bytes: &[u8], seen: Seen, ids: usize, list: usize) -> Move
+    requires { ⌜ (st .stage ≡ Stage.Reading phase) × (unfit (record { ids = ids; list = list }) (walkOf st) ≡ false) ⌝ }
+    ensures { λ r. ⌜ movedBy r ≡ byStanding (record { ids = ids; list = list }) seen (firstLine (now (bytes .entry))) (walkOf st) (reading phase) ⌝ }
+{
+    let here = context(st, phase, ids, list);
+    let v = record::judge(here, seen, bytes);
+    match v {
+        Verdict::Refused(column, reason) => crate::refuse(st, column, reason),
+        Verdict::Passed(taken, said) => go_on(st, taken, said),
+    }
+}
+
+// One line, when it is known whether its FEIN or its identity number was seen before; the call is lent tables of these lengths.
+pub fn line_seen(st: State, bytes: &[u8], seen: Seen, ids: usize, list: usize) -> Move
+    ensures { λ r. ⌜ movedBy r ≡ lineSeen (record { ids = ids; list = list }) seen (walkOf st) (firstLine (now (bytes .entry))) ⌝ }
+{
+    if fitness::is_unfit(st, ids, list) {
+        return crate::stays(st, Reason::StateUnfit);
+    }
+    let stage = st.stage;
+    match stage {
+        Stage::Reading(phase) => read_line(st, phase, bytes, seen, ids, list),
+        Stage::Accepted => crate::stays(st, Reason::WalkEnded),
+        Stage::Refused(refusal) => crate::again(st, refusal),
     }
 }

@@ -1,7 +1,7 @@
--- `step::passing::transmitter` meets its contract.
+-- `step::reading::transmitter` meets its contract.
 use borrow.Author.Needs.{needs}
-use Rattle.step.proofs.passing.transmitter.Statement.{statement}
-use Rattle.step.proofs.passing.transmitter.Tie as tie
+use Rattle.step.proofs.reading.transmitter.Statement.{statement}
+use Rattle.step.proofs.reading.transmitter.Tie as tie
 
 returns : tie.Need-returns
 returns c = rw (c .moves .ensures, c .before .after .ensures, c .before .before .none-open .ensures)

@@ -1,4 +1,4 @@
--- `step::line::read_line` meets its contract.
+-- `step::reading::read_line` meets its contract.
 use mathlib.Core.Path.{sym, ap, _∙_}
 use native.Mathlib.Omega.{arith}
 use borrow.Author.Needs.{needs}
@@ -6,8 +6,8 @@ use Rattle.lines.specs.Lines.{firstLine}
 use Rattle.record.specs.Judge.{judgedBy}
 use Rattle.state.specs.UnfitLaws.{fit-file}
 use Rattle.state.specs.Walks.{walkOf, standingOf}
-use Rattle.step.proofs.line.read_line.Statement.{statement}
-use Rattle.step.proofs.line.read_line.Tie as tie
+use Rattle.step.proofs.reading.read_line.Statement.{statement}
+use Rattle.step.proofs.reading.read_line.Tie as tie
 use Rattle.step.specs.ReadyLaws.{passed-ready}
 
 refuse-requires : tie.Need-refuse-requires

@@ -1,7 +1,7 @@
--- `step::passing::go_on` meets its contract.
+-- `step::reading::go_on` meets its contract.
 use borrow.Author.Needs.{needs}
-use Rattle.step.proofs.passing.go_on.Statement.{statement}
-use Rattle.step.proofs.passing.go_on.Tie as tie
+use Rattle.step.proofs.reading.go_on.Statement.{statement}
+use Rattle.step.proofs.reading.go_on.Tie as tie
 
 employer-requires : tie.Need-employer-requires
 employer-requires c κs = rw (c .before .said2 .given .1) at (c .before .before .before .pre)

@@ -1,7 +1,7 @@
--- `step::passing::employer` meets its contract.
+-- `step::reading::employer` meets its contract.
 use borrow.Author.Needs.{needs}
-use Rattle.step.proofs.passing.employer.Statement.{statement}
-use Rattle.step.proofs.passing.employer.Tie as tie
+use Rattle.step.proofs.reading.employer.Statement.{statement}
+use Rattle.step.proofs.reading.employer.Tie as tie
 
 returns : tie.Need-returns
 returns c = rw (c .moves .ensures, c .before .after .ensures)

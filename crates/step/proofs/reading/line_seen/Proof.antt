@@ -1,10 +1,10 @@
--- `step::line::line_seen` meets its contract.
+-- `step::reading::line_seen` meets its contract.
 use mathlib.Core.Path.{sym, _∙_, ap}
 use borrow.Author.Needs.{needs}
 use Rattle.lines.specs.Lines.{firstLine}
 use Rattle.state.specs.Walks.{walkOf, standingOf}
-use Rattle.step.proofs.line.line_seen.Statement.{statement}
-use Rattle.step.proofs.line.line_seen.Tie as tie
+use Rattle.step.proofs.reading.line_seen.Statement.{statement}
+use Rattle.step.proofs.reading.line_seen.Tie as tie
 use Rattle.step.specs.MoveLaws.{line-unfit, line-fit}
 
 returns : tie.Need-returns

@@ -1,7 +1,7 @@
--- `step::line::context` meets its contract.
+-- `step::reading::context` meets its contract.
 use borrow.Author.Needs.{needs}
-use Rattle.step.proofs.line.context.Statement.{statement}
-use Rattle.step.proofs.line.context.Tie as tie
+use Rattle.step.proofs.reading.context.Statement.{statement}
+use Rattle.step.proofs.reading.context.Tie as tie
 
 returns : tie.Need-returns
 returns c = rw (c .before .entries-used .ensures)

@@ -1,10 +1,10 @@
--- `step::passing::employee` meets its contract.
+-- `step::reading::employee` meets its contract.
 use mathlib.Core.Logic.{inl, inr}
 use native.Mathlib.Omega.{arith}
 use borrow.Author.Needs.{needs}
 use borrow.Author.Tests.{eq-eqb, ne-eqb}
-use Rattle.step.proofs.passing.employee.Statement.{statement}
-use Rattle.step.proofs.passing.employee.Tie as tie
+use Rattle.step.proofs.reading.employee.Statement.{statement}
+use Rattle.step.proofs.reading.employee.Tie as tie
 
 returns : tie.Need-returns
 returns c = rw (c .moves .ensures, c .before .with-one .ensures, eq-eqb _ _ (c .before .before .if1 .taken))
