@@ -1,0 +1,745 @@
+#!/usr/bin/env python3
+"""The stored script of the program `calls`: calls of the walk, one after the other, and what the reference says of each.
+
+    tests/walk_cases.py                 compare crates/calls/stdin and stdout with what is made here, and the reference with results found by hand
+    tests/walk_cases.py --write         write them
+    tests/walk_cases.py --seed N FILE   write a script of other calls to FILE, and their answers to FILE.told
+
+The script keeps a state, an id table of 40 numbers and an employer list of 12 entries from command to command; crates/calls/src/main.rt says what a
+command is. What the program prints is worked out from the script itself, so that both read the same bytes.
+"""
+import os
+import random
+import sys
+
+import record_cases as records
+import walk_reference as walk
+from walk_reference import ACCEPTED, AFTER_A, AFTER_F, AFTER_T, BEFORE_A, E_OPEN, MOST_WAGES, NO_ENTRY, REFUSED, State
+
+# the program's buffer
+ROOM = 65536
+IDS, ENTRIES = 40, 12
+LONG = 65540
+# the numbers that the program can put into a refused state; another is read as the last
+NUMBERS = (1, 44, 63, 70, 71, 72, 80, 83)
+# the digit columns of each command, by their widths, in order from the second character on
+STATE = (("stage", 1), ("number", 2), ("line", 10), ("column", 5), ("lines", 10), ("held_year", 5), ("held_month", 2), ("filed_year", 5),
+         ("filed_month", 2), ("fein", 10), ("follow", 1), ("count", 10), ("sum", 19), ("all_count", 10), ("employers", 10), ("all_sum", 19), ("used", 10))
+QUARTER_LENT = (("year", 5), ("month", 2), ("ids", 2), ("entries", 2))
+LENT = (("ids", 2), ("entries", 2))
+COMMANDS = {
+    "O": QUARTER_LENT, "L": LENT, "E": LENT, "W": QUARTER_LENT, "S": STATE, "X": (("more", 1),),
+    "T": (("at", 2), ("id", 10), ("place", 2), ("fein", 10), ("count", 10), ("cents", 19)),
+}
+
+
+# What the program does with a script.
+
+def parsed(command):
+    given, at = {}, 1
+    for name, width in COMMANDS[command[0]]:
+        given[name] = int(command[at:at + width])
+        at += width
+    return command[0], given, command[at + 1:]
+
+
+def state_in(g):
+    refused = g["stage"] >= REFUSED
+    number = g["number"] if g["number"] in NUMBERS else NUMBERS[-1]
+    return State(
+        stage=min(g["stage"], REFUSED), lines=g["lines"], held=(g["held_year"], g["held_month"]), filed=(g["filed_year"], g["filed_month"]),
+        fein=g["fein"], follow=g["follow"], count=g["count"], sum=g["sum"], all_count=g["all_count"], employers=g["employers"], all_sum=g["all_sum"],
+        used=g["used"], number=number if refused else 0, line=g["line"] if refused else 0, column=g["column"] if refused else 0)
+
+
+def told(reply, st):
+    numbers = (st.stage, st.number, st.line, st.column, st.lines, *st.held, *st.filed, st.fein, st.follow, st.count, st.sum, st.all_count,
+               st.employers, st.all_sum, st.used)
+    return "%d %d %d %d |" % reply + "".join("%d " % n for n in numbers)
+
+
+def trimmed(items, rest):
+    while items and items[-1] == rest:
+        items = items[:-1]
+    return items
+
+
+def told_ids(ids):
+    return "|" + ",".join("%d" % n for n in trimmed(ids, 0))
+
+
+def told_entries(entries):
+    return "|" + ",".join("%d:%d:%d" % entry for entry in trimmed(entries, NO_ENTRY))
+
+
+class Program:
+    def __init__(self):
+        self.st = State()
+        self.ids = [0] * IDS
+        self.entries = [NO_ENTRY] * ENTRIES
+
+    def lend(self, given, call):
+        n, m = min(given["ids"], IDS), min(given["entries"], ENTRIES)
+        ids, entries = self.ids[:n], self.entries[:m]
+        self.st, reply = call(ids, entries)
+        self.ids[:n], self.entries[:m] = ids, entries
+        return told(reply, self.st) + told_ids(self.ids) + told_entries(self.entries) + "\n"
+
+    def alter(self, g):
+        if g["at"] < IDS:
+            self.ids[g["at"]] = g["id"]
+        if g["place"] < ENTRIES:
+            self.entries[g["place"]] = (g["fein"], g["count"], g["cents"])
+
+    def beyond(self, more, data):
+        ids, entries = [0] * IDS, [(7, 8, 9)] * LONG
+        st, reply = walk.line_call(self.st._replace(employers=65535 + min(more, 2)), data, ids, entries)
+        return told(reply, st) + told_entries(entries[65534:]) + "\n"
+
+    def run(self, command):
+        """What a command prints."""
+        letter, g, data = parsed(command)
+        if letter == "O":
+            return self.lend(g, lambda ids, entries: walk.open_walk((g["year"], g["month"]), ids, entries))
+        if letter == "L":
+            return self.lend(g, lambda ids, entries: walk.line_call(self.st, data, ids, entries))
+        if letter == "E":
+            return self.lend(g, lambda ids, entries: walk.end_call(self.st, ids, entries))
+        if letter == "W":
+            return self.lend(g, lambda ids, entries: walk.whole_call((g["year"], g["month"]), data, ids, entries))
+        if letter == "X":
+            return self.beyond(g["more"], data)
+        if letter == "S":
+            self.st = state_in(g)
+        else:
+            self.alter(g)
+        return ""
+
+
+def run_script(text):
+    program = Program()
+    return "".join(program.run(command) for command in text.split("#")[:-1])
+
+
+# Making a script.
+
+class Script:
+    """Commands so far, and the program's state behind them, by which the next ones are made. `lent` is how much of the tables each call is lent."""
+
+    def __init__(self, room):
+        self.program = Program()
+        self.given, self.size, self.room = [], 0, room
+        self.lent = (4, 3)
+
+    def add(self, letter, data=None, **values):
+        digits = "".join("%0*d" % (width, values[name]) for name, width in COMMANDS[letter])
+        command = letter + digits + ("" if data is None else "|" + data)
+        if "#" in command or len(digits) != sum(width for _, width in COMMANDS[letter]):
+            raise ValueError(command)
+        if self.size + len(command) + 1 > self.room:
+            raise OverflowError
+        self.size += len(command) + 1
+        self.given.append(command + "#")
+        self.program.run(command)
+
+    def open(self, held):
+        self.add("O", year=held[0], month=held[1], ids=self.lent[0], entries=self.lent[1])
+
+    def line(self, data):
+        self.add("L", data, ids=self.lent[0], entries=self.lent[1])
+
+    def lines(self, *texts):
+        for text in texts:
+            self.line(text + "\n")
+
+    def end(self):
+        self.add("E", ids=self.lent[0], entries=self.lent[1])
+
+    def whole(self, held, data):
+        self.add("W", data, year=held[0], month=held[1], ids=self.lent[0], entries=self.lent[1])
+
+    def beyond(self, more, data):
+        self.add("X", data, more=more)
+
+    def table(self, at, identity, place, entry):
+        self.add("T", at=at, id=identity, place=place, fein=entry[0], count=entry[1], cents=entry[2])
+
+    def state(self, st):
+        names = dict(st._asdict(), held_year=st.held[0], held_month=st.held[1], filed_year=st.filed[0], filed_month=st.filed[1])
+        self.add("S", **{name: names[name] for name, _ in STATE})
+
+
+# Records that break nothing.
+
+HELD, QUARTER = (2026, 6), (2026, 3)
+FEIN = 12345678
+ADDRESS = ((24, "ACME"), (74, "1 MAIN ST"), (114, "AUGUSTA"), (139, "ME"), (154, "04332"))
+
+
+def filled(letter, *parts):
+    return records.fill(letter + " " * 289, parts)
+
+
+def a_record(quarter=QUARTER):
+    return filled("A", (2, "%04d" % quarter[0]), (6, "012345678"), (15, "PFML"), (19, "%02d" % quarter[1]), *ADDRESS, (164, "JO"), (194, "2075551212"))
+
+
+def e_record(fein=FEIN, follow=1):
+    return filled("E", (2, "2026"), (6, "%09d" % fein), *ADDRESS, (167, "PFML"), (187, "003%d" % follow), (201, "JO"), (231, "A@B"), (261, "2075551212"),
+                  (282, "000000000"))
+
+
+def s_record(identity, wages, fein=FEIN):
+    return filled("S", (2, "%09d" % identity), (11, "O'NEIL-ROY"), (31, "ANNE"), (46, "032026"), (64, "%014d" % wages), (143, "PFML"), (147, "%09d" % fein))
+
+
+def t_record(count, cents, fein=FEIN):
+    return filled("T", (2, "%07d" % count), (9, "PFML"), (13, "%09d" % fein), (27, "%014d" % cents))
+
+
+def f_record(count, employers, cents):
+    return filled("F", (2, "%010d" % count), (12, "%010d" % employers), (22, "PFML"), (41, "%015d" % cents))
+
+
+def joined(*texts):
+    return "".join(text + "\n" for text in texts)
+
+
+def standing(stage, **changes):
+    """A walk at this stage, fit for tables of one entry or more, with two S records in the file, one of them under the open E."""
+    st = State(stage=stage, lines=4, held=HELD, filed=QUARTER, fein=FEIN, follow=1, count=1, sum=100, all_count=2, employers=1, all_sum=300, used=1)
+    if stage == REFUSED:
+        st = st._replace(number=44, line=3, column=6)
+    return st._replace(**changes)
+
+
+def content(w):
+    """Two entries in each table, as no walk leaves them."""
+    w.table(0, 111111111, 0, (FEIN, 0, 0))
+    w.table(1, 222222222, 1, (7, 8, 9))
+
+
+# The cases, by subject.
+
+def accepted(w):
+    """By calls, with tables just large enough; every line end; an id under two employers, a zero id twice."""
+    w.lent = (2, 2)
+    w.open(HELD)
+    w.line(a_record() + "\n")
+    w.line(e_record() + "\r\nE")
+    w.line(s_record(111111111, 123456) + "\r")
+    w.line(s_record(0, 44) + "\n\r")
+    w.line(s_record(0, 0) + "\r\n")
+    w.lines(s_record(222222222, MOST_WAGES - 123500), t_record(4, MOST_WAGES), e_record(0), s_record(111111111, 1, 0), t_record(1, 1, 0))
+    w.line(f_record(5, 2, MOST_WAGES + 1).lower() + "\n")
+    w.end()
+    w.end()
+    w.line("")
+    w.lent = (1, 1)
+    w.open(HELD)
+    w.end()
+    w.end()
+
+
+def in_one_slice(w):
+    """Files in one slice, and some of them by calls: accepted and refused."""
+    good = (a_record(), e_record(5), s_record(111111111, 7, 5), t_record(1, 7, 5), f_record(1, 1, 7))
+    w.lent = (1, 1)
+    w.whole(HELD, joined(*good))
+    w.open(HELD)
+    w.lines(*good)
+    w.end()
+    w.lent = (0, 1)
+    w.whole(HELD, joined(*good[:3]))
+    w.open(HELD)
+    w.lines(*good[:3])
+    w.end()
+    w.lent = (0, 0)
+    w.whole(HELD, joined(*good[:2]))
+    w.lent = (3, 2)
+    zero = joined(a_record(), e_record(5, 0), t_record(0, 0, 5), f_record(0, 1, 0))
+    w.whole(HELD, zero)
+    w.whole(HELD, zero + "\r")
+    content(w)
+    w.whole(HELD, joined(*good[:3], t_record(1, 8, 5)))
+    content(w)
+    w.whole(HELD, "")
+    content(w)
+    w.whole((2026, 5), "A\n")
+    w.whole((2026, 5), "")
+    w.whole(QUARTER, a_record() + "\n\r")
+
+
+def line_ends(w):
+    """A line call that is lent no bytes, one, too few, just enough and more."""
+    w.lent = (1, 1)
+    text = a_record()
+    for data in ("", "A", "\n", "\r\n", text[:289] + "\n", text, text + "\r", text + "\n\r", text + "\r\nX", text + "\rX", text + " \n", text + " ",
+                 text[:289] + "\x7f\n", "X" + text[1:] + "\n"):
+        w.open(QUARTER)
+        w.line(data)
+
+
+def afterwards(w):
+    """Calls behind a refusal, 70 and acceptance, with content in the tables."""
+    w.lent = (1, 2)
+    w.open(HELD)
+    w.line("A\n")
+    content(w)
+    w.line("A\n")
+    content(w)
+    w.lent = (IDS, ENTRIES)
+    w.end()
+    content(w)
+    for quarter in ((2024, 12), (10000, 3), (2026, 0), (2026, 4), (2026, 13)):
+        w.open(quarter)
+    w.line(a_record() + "\n")
+    w.line("")
+    w.end()
+    w.lent = (0, 0)
+    w.end()
+    for quarter in ((2025, 3), (9999, 12)):
+        w.open(quarter)
+    w.lent = (2, 2)
+    w.state(standing(ACCEPTED))
+    w.line(f_record(2, 1, 300) + "\n")
+    w.end()
+    w.state(standing(REFUSED, number=70))
+    w.line("")
+    w.end()
+    w.open(HELD)
+
+
+def ends(w):
+    """An end call in each phase; a line behind F and before the end call goes by the ordinary rules."""
+    w.lent = (1, 1)
+    for stage in (BEFORE_A, AFTER_A, E_OPEN, AFTER_T, AFTER_F):
+        content(w)
+        w.state(standing(stage))
+        w.end()
+    for data in ("", a_record() + "\n", e_record() + "\n", f_record(2, 1, 300) + "\n"):
+        w.state(standing(AFTER_F))
+        w.line(data)
+
+
+def bounds(w):
+    """Each condition of 72 at its bound and one over, where it counts and where it does not."""
+    w.lent = (2, 3)
+    most = walk.MOST_S * MOST_WAGES
+    for stages, over, bound in (
+            # an open E's numbers
+            ((E_OPEN,), dict(used=3), dict(used=2)),
+            ((E_OPEN,), dict(count=3), dict(count=2)),
+            ((E_OPEN,), dict(sum=MOST_WAGES + 1), dict(sum=MOST_WAGES)),
+            ((E_OPEN,), dict(count=0, sum=1), dict(count=0, sum=0)),
+            ((E_OPEN,), dict(employers=0), dict(employers=1)),
+            ((E_OPEN,), dict(fein=1000000000), dict(fein=999999999)),
+            # the file's, in every walk
+            ((BEFORE_A, E_OPEN, REFUSED), dict(employers=4), dict(employers=3)),
+            ((AFTER_A, E_OPEN, ACCEPTED), dict(all_count=100001), dict(all_count=100000)),
+            ((REFUSED,), dict(all_count=100001), dict(all_count=100000)),
+            ((AFTER_T, E_OPEN), dict(all_sum=2 * MOST_WAGES + 1), dict(all_sum=2 * MOST_WAGES)),
+            ((ACCEPTED, REFUSED), dict(all_count=100000, all_sum=most + 1), dict(all_count=100000, all_sum=most)),
+            ((BEFORE_A, REFUSED, AFTER_F), dict(lines=231075), dict(lines=231074)),
+            # the quarters
+            ((BEFORE_A, E_OPEN), dict(held=(2024, 12), filed=(2024, 12)), dict(held=(2025, 3), filed=(2025, 3))),
+            ((BEFORE_A, ACCEPTED), dict(held=(10000, 3)), dict(held=(9999, 12))),
+            ((BEFORE_A,), dict(held=(2026, 7)), dict(held=(2026, 9))),
+            ((AFTER_A, E_OPEN), dict(filed=(2026, 9)), dict(filed=HELD)),
+            ((AFTER_T,), dict(filed=(2024, 12)), dict(filed=(2025, 3))),
+            ((AFTER_F,), dict(filed=(2027, 3)), dict(filed=(2025, 12))),
+            ((ACCEPTED,), dict(filed=(2026, 4)), dict(filed=QUARTER))):
+        content(w)
+        for stage in stages:
+            w.state(standing(stage, **over))
+            w.end()
+        for stage in stages:
+            w.state(standing(stage, **bound))
+            w.end()
+
+
+def no_bounds(w):
+    """What 72 does not test: an open E's numbers when none is open, A's quarter before A, any quarter of a refused walk, one sum against the other."""
+    w.lent = (0, 1)
+    wild = dict(used=9999999999, count=9999999999, sum=9999999999999999999, fein=9999999999)
+    for stage in (BEFORE_A, AFTER_A, AFTER_T, AFTER_F, ACCEPTED, REFUSED):
+        w.state(standing(stage, **wild))
+        w.end()
+    w.state(standing(BEFORE_A, filed=(99999, 99), employers=0))
+    w.end()
+    w.state(standing(AFTER_T, employers=0))
+    w.end()
+    w.state(standing(REFUSED, held=(0, 0), filed=(99999, 99), line=4294967295, column=65535))
+    w.end()
+    w.lent = (1, 1)
+    w.state(standing(E_OPEN, count=2, sum=2 * MOST_WAGES, all_sum=0))
+    w.end()
+    for number in NUMBERS:
+        content(w)
+        w.state(standing(REFUSED, number=number))
+        w.line("")
+
+
+def room(w):
+    """62 and 63, and 53 and 45 in front of them; ids and entries behind those in use count for nothing."""
+    e_open = standing(E_OPEN)
+    for ids, used, identity in ((1, 1, 222222222), (2, 1, 222222222), (1, 1, 111111111), (1, 1, 0), (0, 0, 0), (0, 0, 5), (2, 0, 222222222)):
+        content(w)
+        w.lent = (ids, 1)
+        w.state(e_open._replace(used=used))
+        w.lines(s_record(identity, 1))
+    for entries, employers, fein in ((1, 1, 5), (2, 1, 5), (1, 1, FEIN), (2, 1, 7), (0, 0, 5), (3, 2, 7), (1, 0, FEIN)):
+        content(w)
+        w.lent = (0, entries)
+        w.state(standing(AFTER_T, employers=employers))
+        w.lines(e_record(fein))
+
+
+def totals(w):
+    """T against the S records, F against the file; never against the list."""
+    w.lent = (2, 2)
+    for changes, count, cents in (({}, 1, 100), ({}, 1, 99), ({}, 2, 100), (dict(count=0, sum=0), 0, 0), (dict(count=0, sum=0, follow=0), 0, 0),
+                                  (dict(count=2, sum=10**14, all_sum=10**14), 2, 0), (dict(employers=2, used=0), 1, 100)):
+        content(w)
+        w.state(standing(E_OPEN, **changes))
+        w.lines(t_record(count, cents))
+    content(w)
+    w.table(1, 0, 1, (7, 8, 291))
+    for count, employers, cents in ((2, 1, 300), (8, 1, 300), (2, 2, 300), (2, 1, 291)):
+        w.state(standing(AFTER_T))
+        w.lines(f_record(count, employers, cents))
+    w.state(standing(AFTER_T, all_count=11, all_sum=10**15))
+    w.lines(f_record(11, 1, 0))
+
+
+def at_the_bounds(w):
+    """Lines of a walk at the bounds: the last S record of a file with all sums at their largest, the next one; the last line."""
+    w.lent = (1, 1)
+    most = 99999 * MOST_WAGES
+    w.state(standing(E_OPEN, count=99999, sum=most, all_count=99999, all_sum=most, used=0))
+    w.lines(s_record(0, MOST_WAGES), s_record(0, 0))
+    w.end()
+    w.state(standing(E_OPEN, lines=231074))
+    w.lines(t_record(1, 100))
+    w.line("")
+    w.end()
+    w.state(standing(E_OPEN, lines=231074))
+    w.lines(t_record(1, 101))
+
+
+def altered(w):
+    """What a passing line leaves of made-up numbers, and of tables with content: A, E, F, and S and T with another FEIN in the list."""
+    w.lent = (2, 3)
+    wild = dict(used=77, count=88, sum=99, fein=1234567890)
+    for stage, text in ((BEFORE_A, a_record()), (AFTER_A, e_record(5, 0)), (AFTER_T, f_record(2, 1, 300))):
+        content(w)
+        w.state(standing(stage, **wild))
+        w.lines(text)
+    content(w)
+    w.table(2, 333333333, 2, (1, 1, 1))
+    w.state(standing(E_OPEN, employers=2))
+    w.lent = (40, 12)
+    w.lines(s_record(333333333, 5), s_record(0, 6), t_record(3, 111))
+    w.state(standing(E_OPEN, employers=2))
+    w.lines(s_record(1, 1, 7))
+
+
+def other_lengths(w):
+    """Tables of other lengths at later calls."""
+    w.lent = (4, 3)
+    w.open(HELD)
+    w.lines(a_record(), e_record(), s_record(111111111, 1), s_record(222222222, 2))
+    for lent in ((1, 3), (4, 0)):
+        w.lent = lent
+        w.line("A\n")
+        w.end()
+    w.lent = (2, 1)
+    w.lines(t_record(2, 3))
+    w.lent = (0, 1)
+    w.lines(f_record(2, 1, 3))
+    w.lent = (0, 0)
+    w.end()
+    w.lent = (0, 1)
+    w.end()
+    w.lent = (0, 0)
+    w.end()
+
+
+def beyond(w):
+    """More than 65,536 entries, each 7, 8, 9: the last one used, none left, one too many; a FEIN on an earlier E; any other refusal."""
+    w.state(standing(AFTER_T))
+    for more in range(3):
+        w.beyond(more, e_record() + "\n")
+    w.beyond(0, e_record(7) + "\n")
+    w.beyond(0, "E\n")
+    w.state(standing(REFUSED))
+    w.beyond(1, "")
+
+
+HAND = (accepted, in_one_slice, line_ends, afterwards, ends, bounds, no_bounds, room, totals, at_the_bounds, altered, other_lengths, beyond)
+
+
+# Calls by chance.
+
+def chance_quarter(pick):
+    return (pick.choice((2025, 2026, 2026, 2026)), pick.choice((3, 6, 9, 12)))
+
+
+def chance_record(letter, st, pick):
+    c = walk.context(st, "", [], [])
+    if letter == "A":
+        c["filed"] = pick.choice((st.held, QUARTER, chance_quarter(pick)))
+    if letter == "E":
+        c["fein"] = pick.choice((0, 5, FEIN, 690000000, 700000000, 5, FEIN))
+    text = records.good_record(letter, c, pick)
+    if letter == "E" and pick.random() < 0.2:
+        text = records.put(text, 190, "0")
+    if letter == "S":
+        text = records.put(text, 2, "%09d" % pick.choice((0, 111111111, 222222222, 333333333, 665999999)))
+    if letter == "S" and pick.random() < 0.2:
+        text = records.put(text, 64, "%014d" % pick.choice((0, 1, MOST_WAGES)))
+    return text[:290]
+
+
+def chance_line(st, pick):
+    usual = {BEFORE_A: "A", AFTER_A: "E", E_OPEN: "SST", AFTER_T: "EFF", AFTER_F: "AESTF"}.get(st.stage, "AESTF")
+    if st.stage == E_OPEN and not st.follow:
+        usual = "T"
+    letter = pick.choice(usual if pick.random() < 0.95 else "AESTF")
+    text = chance_record(letter, st, pick)
+    if pick.random() < 0.08:
+        text = records.damaged(text, letter, pick)[:290]
+    return text + pick.choice(("\n", "\r", "\r\n"))
+
+
+def chance_state(st, pick):
+    n, m = pick.randrange(6), pick.randrange(5)
+    count = pick.choice((st.count, 0, 3, 100000))
+    choices = (
+        dict(stage=pick.randrange(5)), dict(lines=231073 + pick.randrange(4)), dict(used=n), dict(employers=m), dict(count=count),
+        dict(all_count=99999 + pick.randrange(3)), dict(count=n, all_count=m + 2), dict(count=n, sum=n * MOST_WAGES + pick.randrange(2), all_count=5),
+        dict(all_count=m, all_sum=m * MOST_WAGES + pick.randrange(2)), dict(fein=999999999 + pick.randrange(2)), dict(held=chance_quarter(pick)),
+        dict(filed=chance_quarter(pick)), dict(filed=(2026, pick.randrange(13))), dict(stage=ACCEPTED), dict(follow=1 - st.follow),
+        dict(stage=REFUSED, number=pick.choice(NUMBERS), line=pick.randrange(9), column=pick.randrange(300)))
+    for _ in range(pick.choice((1, 1, 2))):
+        st = st._replace(**pick.choice(choices))
+    if st.stage != REFUSED:
+        return st._replace(number=0, line=0, column=0)
+    return st if st.number in NUMBERS else st._replace(number=NUMBERS[0])
+
+
+def chance_lent(pick):
+    return (pick.choice((0, 1, 2, 3, 4, 40)), pick.choice((0, 1, 2, 3, 12)))
+
+
+def chance_walk(w, pick):
+    w.lent = pick.choice(((3, 2), (3, 2), (3, 2), chance_lent(pick)))
+    w.open(pick.choice((HELD, HELD, chance_quarter(pick))))
+    for _ in range(pick.randrange(3, 14)):
+        st = w.program.st
+        way = pick.random()
+        if way < 0.04:
+            w.lent = chance_lent(pick)
+        elif way < 0.09:
+            w.state(chance_state(st, pick))
+        elif way < 0.13:
+            w.table(pick.randrange(5), pick.choice((0, 111111111, 222222222, 4294967295)), pick.randrange(4), pick.choice(((0, 0, 0), (5, 1, 2), (FEIN, 3, 4))))
+        elif way < 0.16 or (st.stage == AFTER_F and way < 0.8):
+            w.end()
+        elif st.stage >= ACCEPTED:
+            w.line(pick.choice(("", "A\n")))
+            if way < 0.6:
+                return
+        else:
+            w.line(chance_line(st, pick))
+
+
+def made(seed, hand):
+    """A script of the cases above, or of none of them, and then of calls by chance."""
+    w = Script(ROOM)
+    for cases in hand:
+        cases(w)
+    pick = random.Random(seed)
+    try:
+        while True:
+            chance_walk(w, pick)
+    except OverflowError:
+        given = "".join(w.given)
+        return given, run_script(given)
+
+
+# The reference against results found by hand from the paper, and against itself.
+
+GOOD = (0, 0, 0, 0)
+
+
+def tried(data, ids=2, entries=2):
+    """What a file in one slice leaves of tables with content: the reply, the stage and both tables."""
+    ids, entries = [9] * ids, [(9, 9, 9)] * entries
+    st, reply = walk.whole_call(HELD, data, ids, entries)
+    return tuple(reply), st.stage, ids, entries
+
+
+def refused(number, line, column, ids=2, entries=2):
+    return (number, line, column, 0), REFUSED, [0] * ids, [NO_ENTRY] * entries
+
+
+def replies(*files):
+    return [tried(joined(*texts))[0] for texts in files]
+
+
+def tables_behind(*texts):
+    ids, entries = [9] * 3, [(9, 9, 9)] * 2
+    st, _ = walk.open_walk(HELD, ids, entries)
+    for text in texts:
+        st, _ = walk.line_call(st, text + "\n", ids, entries)
+    return ids, entries
+
+
+def bad_quarter():
+    ids, entries = [9], [(9, 9, 9)]
+    st, first = walk.open_walk((2026, 7), ids, entries)
+    st, second = walk.line_call(st, "", ids, entries)
+    st, third = walk.end_call(st, ids, entries)
+    return [tuple(reply) for reply in (first, second, third)], st, ids, entries
+
+
+A, E, E0, T0, F0 = a_record(), e_record(), e_record(FEIN, 0), t_record(0, 0), f_record(0, 1, 0)
+TWO = (s_record(111111111, 123456), s_record(0, 44))
+EXAMPLE = (A, E, *TWO, t_record(2, 123500), f_record(2, 1, 123500))
+
+
+def files_by_hand():
+    """What was tried, what the reference says, and what the paper says: its own cases, and files as a whole."""
+    small = "".join(text.lower() + "\r\n" for text in EXAMPLE)
+    two = (A, E, s_record(5, 1), t_record(1, 1), e_record(7), s_record(5, 2, 7), t_record(1, 2, 7), f_record(2, 2, 3))
+    return (
+        ("a. empty file", tried(""), refused(5, 1, 1)),
+        ("b. 289 characters", tried(A[:289] + "\n"), refused(1, 1, 290)),
+        ("c. 291 characters", tried(A + " \n"), refused(1, 1, 291)),
+        ("d. LF CR after a record", tried(A + "\n\r"), refused(1, 2, 1)),
+        ("the last line has no end", tried(A), refused(2, 1, 291)),
+        ("the example", tried(joined(*EXAMPLE)), (GOOD, ACCEPTED, [0, 0], [(FEIN, 2, 123500), NO_ENTRY])),
+        ("the example in small letters", tried(small), (GOOD, ACCEPTED, [0, 0], [(FEIN, 2, 123500), NO_ENTRY])),
+        ("reason 52 at line 3, column 2", tried(joined(A, E, s_record(666000001, 1))), refused(52, 3, 2)),
+        ("g. FEIN 690000000", tried(joined(A, e_record(690000000))), refused(44, 2, 6)),
+        ("one person, two employers", tried(joined(*two), 1), (GOOD, ACCEPTED, [0], [(FEIN, 1, 1), (7, 1, 2)])),
+        ("i. zero twice, and no room", tried(joined(A, E, s_record(0, 1), s_record(0, 1), t_record(2, 2), f_record(2, 1, 2)), 0),
+         (GOOD, ACCEPTED, [], [(FEIN, 2, 2), NO_ENTRY])),
+        ("zero returns only", tried(joined(A, E0, T0, F0)), (GOOD, ACCEPTED, [0, 0], [(FEIN, 0, 0), NO_ENTRY])),
+    )
+
+
+def rules_by_hand():
+    """The same for the table limits, totals and place, and the content of the tables."""
+    five, t5 = s_record(5, 1), (A, e_record(5, 0), t_record(0, 0, 5))
+    f_wrong = [(*EXAMPLE[:5], f) for f in (f_record(1, 1, 123500), f_record(2, 2, 123500), f_record(2, 1, 1))]
+    return (
+        ("an id twice", tried(joined(A, E, five, five)), refused(53, 4, 2)),
+        ("an id twice, and the table full", tried(joined(A, E, five, five), 1), refused(53, 4, 2, 1)),
+        ("id table full", tried(joined(A, E, five, s_record(6, 1)), 1), refused(62, 4, 2, 1)),
+        ("no list", tried(joined(A, E), 2, 0), refused(63, 2, 6, 2, 0)),
+        ("list full", tried(joined(*t5, E), 2, 1), refused(63, 4, 6, 2, 1)),
+        ("a FEIN twice, and the list full", tried(joined(*t5, e_record(5)), 2, 1), refused(45, 4, 6, 2, 1)),
+        ("T not the S records' sum, F that of T", tried(joined(A, E, *TWO, t_record(2, 5), f_record(2, 1, 5))), refused(57, 5, 27)),
+        ("T's count; none though E says 1; S under an E saying 0", replies((A, E, *TWO, t_record(1, 123500)), (A, E, T0), (A, E0, five)),
+         [(55, 5, 2, 0), (56, 3, 2, 0), (16, 3, 1, 0)]),
+        ("F's three", replies(*f_wrong), [(58, 6, 2, 0), (59, 6, 12, 0), (60, 6, 41, 0)]),
+        ("behind F", replies(*[(A, E0, T0, F0, text) for text in (A, E, five, T0, F0)]), [(n, 5, 1, 0) for n in (11, 20, 20, 20, 19)]),
+        ("the file ends early", replies((A,), (A, E), EXAMPLE[:4], EXAMPLE[:5]), [(6, 2, 1, 0), (7, 3, 1, 0), (7, 5, 1, 0), (8, 6, 1, 0)]),
+        ("tables under an E", tables_behind(A, E, s_record(8, 1), s_record(0, 1), s_record(7, 1)), ([8, 7, 0], [(FEIN, 0, 0), NO_ENTRY])),
+        ("tables behind a T", tables_behind(A, E, s_record(8, 1), t_record(1, 1)), ([0, 0, 0], [(FEIN, 1, 1), NO_ENTRY])),
+        ("a bad quarter, a line and the end", bad_quarter(), ([(70, 0, 0, 0)] * 3, State(stage=REFUSED, number=70), [9], [(9, 9, 9)])),
+    )
+
+
+def file_of(data, pick):
+    """The calls of the paper over a file: each lent all that remains, or at least 292 bytes of it."""
+    ids, entries = [9] * 3, [(9, 9, 9)] * 2
+    st, reply = walk.open_walk(HELD, ids, entries)
+    while data and not reply.number:
+        st, reply = walk.line_call(st, data[:pick.choice((292, 293, 600, len(data) + 292))], ids, entries)
+        data = data[reply.taken:]
+    return walk.end_call(st, ids, entries), ids, entries
+
+
+def chance_file(pick):
+    """A file by chance: often one that is accepted."""
+    ids, entries, lines = [0] * 3, [NO_ENTRY] * 2, []
+    st, _ = walk.open_walk(HELD, ids, entries)
+    while st.stage < ACCEPTED and len(lines) < 20:
+        if st.stage == AFTER_F and pick.random() < 0.9:
+            break
+        lines.append(chance_line(st, pick))
+        st, _ = walk.line_call(st, lines[-1], ids, entries)
+    return "".join(lines)
+
+
+def employers_of(data):
+    """The E records of an accepted file with what stands under each, by its letters and columns alone."""
+    found = []
+    for line in data.replace("\r\n", "\n").replace("\r", "\n").split("\n"):
+        if line[:1] in ("E", "e"):
+            found.append((int(line[5:14]), 0, 0))
+        if line[:1] in ("S", "s"):
+            fein, count, cents = found[-1]
+            found[-1] = (fein, count + 1, cents + int(line[63:77]))
+    return found
+
+
+def against_itself():
+    """The whole file against its calls, and the list of an accepted file against its E and S records; how many were tried and accepted."""
+    pick = random.Random(72)
+    wrong, taken = [], 0
+    for k in range(2000):
+        data = chance_file(pick)
+        ids, entries = [9] * 3, [(9, 9, 9)] * 2
+        answer = walk.whole_call(HELD, data, ids, entries)
+        if (answer, ids, entries) != file_of(data, pick):
+            wrong.append("file %d by calls" % k)
+        if answer[0].stage == ACCEPTED:
+            taken += 1
+            found = employers_of(data)
+            if ids != [0] * 3 or entries != found + [NO_ENTRY] * (2 - len(found)):
+                wrong.append("employers of file %d" % k)
+        elif ids != [0] * 3 or entries != [NO_ENTRY] * 2:
+            wrong.append("tables of file %d" % k)
+    return wrong, taken
+
+
+def check(label, good):
+    print(("ok     " if good else "FAILED ") + label)
+    return bool(good)
+
+
+def compare(paths, texts):
+    results = []
+    for path, text in zip(paths, texts):
+        with open(path, encoding="latin-1", newline="") as f:
+            results.append(check(os.path.relpath(path, records.ROOT) + " is what the reference says of %d calls" % texts[1].count("\n"), f.read() == text))
+    for label, said, right in files_by_hand() + rules_by_hand():
+        results.append(check("by hand: " + label, said == right))
+    wrong, taken = against_itself()
+    results.append(check("2000 files in one slice and by calls, %d of them accepted%s" % (taken, "".join("; " + w for w in wrong[:3])), not wrong and taken))
+    print("%d passed, %d failed" % (sum(results), len(results) - sum(results)))
+    return 0 if all(results) else 1
+
+
+def main():
+    if "--seed" in sys.argv:
+        seed, path = sys.argv[sys.argv.index("--seed") + 1:][:2]
+        for end, text in zip(("", ".told"), made(int(seed), ())):
+            records.write(path + end, text)
+        return 0
+    texts = made(290, HAND)
+    paths = [os.path.join(records.ROOT, "crates", "calls", n) for n in ("stdin", "stdout")]
+    if "--write" in sys.argv:
+        for path, text in zip(paths, texts):
+            records.write(path, text)
+        print("%d answers written" % texts[1].count("\n"))
+        return 0
+    return compare(paths, texts)
+
+
+if __name__ == "__main__":
+    sys.exit(main())

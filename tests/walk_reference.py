@@ -1,0 +1,182 @@
+"""The walk over a wage file, written from document 01 alone: opening, one line, the end, and a whole file.
+
+It shares nothing with the product. Every state gets an answer, one that a caller made up too, and so do any bytes and tables of any length.
+
+A state is a `State`. The id table is a list of numbers, the employer list a list of (FEIN, S count, cents); both are written in place, as a call writes
+what it is lent. An answer is the next state and a `Reply`: the paper's number (0 where nothing is refused), line and column, and the bytes taken.
+"""
+from typing import NamedTuple
+
+import record_cases as records
+import reference as ref
+
+BEFORE_A, AFTER_A, E_OPEN, AFTER_T, AFTER_F, ACCEPTED, REFUSED = range(7)
+MOST_S = 100000
+MOST_ENTRIES = 65536
+MOST_LINES = 231074
+MOST_WAGES = 99999999999999
+MOST_FEIN = 999999999
+# the numbers that a refusal leaves in the state: those of lines and of the end of the input, and that of a bad quarter
+LEFT = {*range(1, 9), *range(10, 21), *range(30, 64), 70}
+NO_ENTRY = (0, 0, 0)
+
+
+class State(NamedTuple):
+    stage: int = BEFORE_A
+    lines: int = 0
+    # the last closed quarter, and A's
+    held: tuple = (0, 0)
+    filed: tuple = (0, 0)
+    # the open E: FEIN, whether S records follow, and those under it
+    fein: int = 0
+    follow: int = 0
+    count: int = 0
+    sum: int = 0
+    # the file so far
+    all_count: int = 0
+    employers: int = 0
+    all_sum: int = 0
+    # how many ids of the table are the open E's
+    used: int = 0
+    # a refused walk's refusal
+    number: int = 0
+    line: int = 0
+    column: int = 0
+
+
+class Reply(NamedTuple):
+    number: int = 0
+    line: int = 0
+    column: int = 0
+    taken: int = 0
+
+
+def may_be_held(quarter):
+    year, month = quarter
+    return 2025 <= year <= 9999 and month in (3, 6, 9, 12)
+
+
+def may_be_filed(quarter, held):
+    """What A's edits let pass: 38 and 40, 39 and 41."""
+    year, month = quarter
+    return year >= 2025 and month in (3, 6, 9, 12) and tuple(quarter) <= tuple(held)
+
+
+def open_e_unfit(st, ids):
+    return (st.used > len(ids) or st.all_count < st.count or st.sum > st.count * MOST_WAGES or st.employers == 0
+            or st.fein > MOST_FEIN)
+
+
+def unfit(st, ids, entries):
+    """72, clause by clause."""
+    if st.employers > min(len(entries), MOST_ENTRIES):
+        return True
+    if st.all_count > MOST_S or st.all_sum > st.all_count * MOST_WAGES or st.lines > MOST_LINES:
+        return True
+    if st.stage == E_OPEN and open_e_unfit(st, ids):
+        return True
+    if st.stage == REFUSED:
+        return st.number not in LEFT
+    if not may_be_held(st.held):
+        return True
+    return st.stage != BEFORE_A and not may_be_filed(st.filed, st.held)
+
+
+def clear(ids, entries):
+    ids[:] = [0] * len(ids)
+    entries[:] = [NO_ENTRY] * len(entries)
+
+
+def refuse(number, line, column, ids, entries):
+    """A refusal from 1 to 63: both tables zeroed, and of the state nothing kept but number and place."""
+    clear(ids, entries)
+    return State(stage=REFUSED, number=number, line=line, column=column), Reply(number, line, column)
+
+
+def not_reading(st, ids, entries):
+    """The answer to a line or an end call that no edit decides; None where the walk goes on."""
+    if unfit(st, ids, entries):
+        return st, Reply(72)
+    if st.stage == ACCEPTED:
+        return st, Reply(71)
+    if st.stage == REFUSED:
+        if st.number != 70:
+            clear(ids, entries)
+        return st, Reply(st.number, st.line, st.column)
+    return None
+
+
+def number_on(text, first, last):
+    return ref.number_or_zero(text, first, last)
+
+
+def context(st, text, ids, entries):
+    """What the edits of a line depend on; an earlier E's FEIN stands in the list, an id under the open E in the table."""
+    feins = {entry[0] for entry in entries[:st.employers]}
+    return dict(
+        phase=st.stage, held=tuple(st.held), filed=tuple(st.filed), fein=st.fein, follow=st.follow, count=st.count, sum=st.sum, all_count=st.all_count,
+        employers=st.employers, all_sum=st.all_sum, ids_full=st.used >= len(ids), list_full=st.employers >= min(len(entries), MOST_ENTRIES),
+        seen_fein=number_on(text, 6, 14) in feins, seen_id=number_on(text, 2, 10) in ids[:st.used])
+
+
+NO_E = dict(fein=0, follow=0, count=0, sum=0, used=0)
+
+
+def after_line(st, text, ids, entries):
+    """The state behind a line that passed; what it writes is written."""
+    letter = text[0]
+    st = st._replace(lines=st.lines + 1)
+    if letter == "A":
+        return st._replace(stage=AFTER_A, filed=(number_on(text, 2, 5), number_on(text, 19, 20)), **NO_E)
+    if letter == "E":
+        fein = number_on(text, 6, 14)
+        entries[st.employers] = (fein, 0, 0)
+        return st._replace(stage=E_OPEN, employers=st.employers + 1, fein=fein, follow=number_on(text, 190, 190), count=0, sum=0, used=0)
+    if letter == "S":
+        identity, wages = number_on(text, 2, 10), number_on(text, 64, 77)
+        if identity:
+            ids[st.used] = identity
+        return st._replace(count=st.count + 1, sum=st.sum + wages, all_count=st.all_count + 1, all_sum=st.all_sum + wages,
+                           used=st.used + (1 if identity else 0))
+    if letter == "T":
+        ids[:st.used] = [0] * st.used
+        entries[st.employers - 1] = (entries[st.employers - 1][0], st.count, st.sum)
+        return st._replace(stage=AFTER_T, **NO_E)
+    return st._replace(stage=AFTER_F, **NO_E)
+
+
+def open_walk(held, ids, entries):
+    if not may_be_held(held):
+        return State(stage=REFUSED, number=70), Reply(70)
+    clear(ids, entries)
+    return State(held=tuple(held)), Reply()
+
+
+def line_call(st, data, ids, entries):
+    answer = not_reading(st, ids, entries)
+    if answer:
+        return answer
+    text = ref.upper(data[:290])
+    number, place = records.judge(context(st, text, ids, entries), data)
+    if number:
+        return refuse(number, st.lines + 1, place, ids, entries)
+    return after_line(st, text, ids, entries), Reply(taken=place)
+
+
+def end_call(st, ids, entries):
+    answer = not_reading(st, ids, entries)
+    if answer:
+        return answer
+    if st.stage == AFTER_F:
+        return st._replace(stage=ACCEPTED), Reply()
+    number = {BEFORE_A: 5, AFTER_A: 6, E_OPEN: 7, AFTER_T: 8}[st.stage]
+    return refuse(number, st.lines + 1, 1, ids, entries)
+
+
+def whole_call(held, data, ids, entries):
+    """Opening, line calls while any byte remains and none is refused, then one end call, whose answer this is."""
+    st, reply = open_walk(held, ids, entries)
+    while data and not reply.number:
+        st, reply = line_call(st, data, ids, entries)
+        data = data[reply.taken:]
+    return end_call(st, ids, entries)
