@@ -1,0 +1,171 @@
+// Runs a script of calls of the walk, and prints each answer with all that the call leaves.
+//
+// A state, an id table of 40 numbers and an employer list of 12 entries are kept from command to command. A command ends with #. Its first character
+// names it, digits in fixed columns follow, and then, where a call is lent bytes, a stroke and these:
+//
+//     O  opening: year 2-6, month 7-8, ids lent 9-10, entries lent 11-12
+//     L  a line: ids lent 2-3, entries lent 4-5; bytes
+//     E  the end: ids lent 2-3, entries lent 4-5
+//     W  a whole file: as O; bytes
+//     S  another state; T another id and another entry: `script` has their columns
+//     X  a line, lent a list of 65,540 entries, each 7, 8, 9: the state has 65,535 employers, or one or two more, by the digit in 2; bytes. What it
+//        leaves is not kept
+//
+// The four calls and X print a line: number, line, column and bytes taken; the state; the ids; the entries. Zeros at the end of a table are left
+// out. X prints no ids, and the entries from 65,534 on.
+mod print;
+mod script;
+
+use calendar::Quarter;
+use state::State;
+use step::Answer;
+ghost use Prim.Native.Nat.{_≤_};
+ghost use mathlib.Core.Path.{_≡_};
+ghost use lib.ListN.{length};
+
+// What the columns say of how much of each table is lent.
+fn ids_lent(letter: u8, s: &[u8]) -> u64 {
+    match letter {
+        b'L' => number::value_in(s, 2, 3),
+        b'E' => number::value_in(s, 2, 3),
+        _ => number::value_in(s, 9, 10),
+    }
+}
+
+fn entries_lent(letter: u8, s: &[u8]) -> u64 {
+    match letter {
+        b'L' => number::value_in(s, 4, 5),
+        b'E' => number::value_in(s, 4, 5),
+        _ => number::value_in(s, 11, 12),
+    }
+}
+
+// No more is lent than there is.
+fn at_most(n: u64, most: usize) -> usize
+    ensures { λ r. ⌜ r ≤ most ⌝ }
+{
+    let asked = n as usize;
+    if asked < most {
+        return asked;
+    }
+    most
+}
+
+// The bytes behind the first n, none where there are no more.
+fn behind<'a>(s: &'a [u8], n: usize) -> &'a [u8] {
+    let end = s.len();
+    if end < n {
+        return &s[end..];
+    }
+    &s[n..]
+}
+
+fn quarter_on(s: &[u8]) -> Quarter {
+    Quarter {
+        year: number::value_in(s, 2, 6),
+        month: number::value_in(s, 7, 8),
+    }
+}
+
+fn call(letter: u8, st: State, s: &[u8], ids: &mut [u32], list: &mut [[u64; 3]]) -> Answer {
+    match letter {
+        b'O' => walk::open(quarter_on(s), ids, list),
+        b'L' => walk::line(st, behind(s, 6), ids, list),
+        b'E' => walk::end(st, ids, list),
+        _ => walk::whole(quarter_on(s), behind(s, 13), ids, list),
+    }
+}
+
+// The call, lent as much of the tables as the columns say.
+fn lent_call(letter: u8, st: State, s: &[u8], ids: &mut [u32], list: &mut [[u64; 3]]) -> Answer {
+    let from: usize = 0;
+    let n = at_most(ids_lent(letter, s), ids.len());
+    let m = at_most(entries_lent(letter, s), list.len());
+    call(letter, st, s, &mut ids[from..n], &mut list[from..m])
+}
+
+// The call's answer printed; its state is kept.
+fn told(a: Answer, ids: &[u32], list: &[[u64; 3]]) -> State {
+    print::answer(a);
+    print::id_table(ids);
+    print::entries(list);
+    print::line_end();
+    let next = a.state;
+    next
+}
+
+fn long_list() -> [[u64; 3]; 65540]
+    ensures { λ r. ⌜ 65540 ≡ length r ⌝ }
+{
+    let entry = [7u64, 8, 9];
+    [entry; 65540]
+}
+
+fn line_beyond(st: State, s: &[u8]) {
+    let mut ids = [0u32; 40];
+    let mut list = long_list();
+    let a = walk::line(st, behind(s, 3), &mut ids, &mut list);
+    let from: usize = 65534;
+    print::answer(a);
+    print::entries(&list[from..]);
+    print::line_end();
+}
+
+fn command(st: State, s: &[u8], ids: &mut [u32], list: &mut [[u64; 3]]) -> State {
+    let letter = chars::char_at(s, 0);
+    match letter {
+        b'S' => script::state_in(s),
+        b'T' => {
+            script::alter_ids(s, ids);
+            script::alter_list(s, list);
+            st
+        }
+        b'X' => {
+            line_beyond(script::with_employers(st, s), s);
+            st
+        }
+        _ => {
+            let a = lent_call(letter, st, s, ids, list);
+            told(a, ids, list)
+        }
+    }
+}
+
+// How long a command is.
+fn command_length(s: &[u8]) -> usize
+    ensures { λ r. ⌜ r ≤ length (now (s .entry)) ⌝ }
+{
+    let mut i = 0;
+    while i < s.len() {
+        if s[i] == b'#' {
+            return i;
+        }
+        i += 1;
+    }
+    i
+}
+
+fn commands(input: &[u8], ids: &mut [u32], list: &mut [[u64; 3]]) {
+    let mut st = state::opened(state::no_quarter());
+    let mut at = 0;
+    while at < input.len() {
+        let rest = &input[at..];
+        let length = command_length(rest);
+        if rest.len() <= length {
+            return;
+        }
+        let end = at + length;
+        let next = end + 1;
+        st = command(st, &input[at..end], ids, list);
+        at = next;
+    }
+}
+
+fn main() {
+    let mut buffer = io::large_buffer();
+    let n = io::read_full(0, &mut buffer);
+    let mut ids = [0u32; 40];
+    let none = [0u64, 0, 0];
+    let mut list = [none; 12];
+    commands(&buffer[..n], &mut ids, &mut list);
+}
