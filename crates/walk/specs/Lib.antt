@@ -10,3 +10,4 @@ pub mod WholeLaws
 pub mod TablesAt
 pub mod NeverUnfit
 pub mod Employers
+pub mod AtEnd

@@ -1,0 +1,82 @@
+-- The frames of an acknowledgement. "Output: lines of hexadecimal in capitals, one frame a line, LF, numbers big-endian."
+use Prim.Native.Nat.{ℕ, _+_, _*_}
+use mathlib.Core.Bool.{Bool, true, false}
+use mathlib.Core.List.{List, [], _∷_, _++_}
+use lib.Dec.{ltb}
+use lib.ListN.{length, take, drop}
+use Rattle.laws.specs.Choice.{if_then_else_}
+use Rattle.reason.specs.Numbers.{Notice}
+use Rattle.edits.specs.declared.Totals.{Totals}
+use Rattle.tables.specs.Room.{Room}
+use Rattle.tables.specs.declared.Employer.{Employer}
+use Rattle.meaning.specs.Meaning.{Outcome, accepted, refused}
+use Rattle.state.specs.Unfit.{unfit}
+use Rattle.state.specs.Walks as walks
+use Rattle.state.specs.Walks.{Standing, Walk}
+use Rattle.frames.specs.Hex.{hex}
+use Rattle.frames.specs.declared.Framed.{Framed}
+use Rattle.frames.specs.declared.Framed.the-variants.{Written, Unfit, NotEnded, TooSmall}
+
+-- Two digits a byte; a frame ends with LF.
+abbrev pub lineEnd : List ℕ
+lineEnd = 10 ∷ []
+
+-- "01, FEIN (4 bytes), S count (4), cents (8), one for each employer"
+abbrev pub employerFrame : Employer → List ℕ
+employerFrame e = hex 2 1 ++ hex 8 (e .fein) ++ hex 8 (e .count) ++ hex 16 (e .cents) ++ lineEnd
+
+unfoldable pub employerFrames : List Employer → List ℕ
+employerFrames [] = []
+employerFrames (e ∷ list) = employerFrame e ++ employerFrames list
+
+-- "then 00, S count (4), E count (4), cents (8)"
+abbrev pub closingFrame : Totals → List ℕ
+closingFrame all = hex 2 0 ++ hex 8 (all .count) ++ hex 8 (all .employers) ++ hex 16 (all .sum) ++ lineEnd
+
+-- "If refused, only FF, number (1), line (4), column (2)."
+abbrev pub refusalFrame : Notice → List ℕ
+refusalFrame says = hex 2 255 ++ hex 2 (says .number) ++ hex 8 (says .line) ++ hex 4 (says .column) ++ lineEnd
+
+-- The acknowledgement of a file, by its meaning.
+abbrev pub framesOf : Outcome → List ℕ
+framesOf (accepted entries totals) = employerFrames entries ++ closingFrame totals
+framesOf (refused says) = refusalFrame says
+
+-- How many bytes they are: 35 for each employer and 35 more; 17 for a refusal.
+abbrev pub bound : Outcome → ℕ
+bound (accepted entries totals) = 35 * length entries + 35
+bound (refused says) = 17
+
+-- What a call that writes frames answers, and what is then in the lent buffer.
+pub record Framing : Type 0 where
+  pub answer : Framed
+  pub out : List ℕ
+
+-- Frames written at the front of the buffer, or none where it is too small.
+abbrev pub fitted : List ℕ → List ℕ → Framing
+fitted frames out =
+    if ltb (length out) (length frames)
+    then record { answer = TooSmall; out = out }
+    else record { answer = Written (length frames); out = frames ++ drop (length frames) out }
+
+-- A walk that still reads was not accepted, the phase after F included.
+abbrev pub isAccepted : Standing → Bool
+isAccepted (walks.reading phase) = false
+isAccepted walks.accepted = true
+isAccepted (walks.refused says) = false
+
+-- Frames come only for a walk that has ended: accepted or refused.
+abbrev pub standingFrames : Walk → List Employer → List ℕ → Standing → Framing
+standingFrames walk list out (walks.reading phase) = record { answer = NotEnded; out = out }
+standingFrames walk list out walks.accepted = fitted (employerFrames (take (walk .all .employers) list) ++ closingFrame (walk .all)) out
+standingFrames walk list out (walks.refused says) = fitted (refusalFrame says) out
+
+-- The call is lent no id table, so none is compared (72).
+abbrev pub roomWithout : Walk → List Employer → Room
+roomWithout walk list = record { ids = walk .used; list = length list }
+
+unfoldable pub framing : Walk → List Employer → List ℕ → Framing
+framing walk list out =
+    if unfit (roomWithout walk list) walk
+    then record { answer = Unfit; out = out }
+    else standingFrames walk list out (walk .standing)

@@ -1,0 +1,5 @@
+pub mod Hex
+pub mod Pasted
+pub mod HexLaws
+pub mod Frames
+pub mod FrameLaws
