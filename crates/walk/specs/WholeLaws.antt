@@ -5,13 +5,13 @@ use mathlib.Core.List.{List, [], _∷_}
 use mathlib.Core.Logic.{inr}
 use mathlib.Core.Path.{_≡_, refl, sym, ap, _∙_}
 use native.Mathlib.Nat.{le-refl}
-use native.Mathlib.Numerals.{sub-one}
 use native.Mathlib.Omega.{arith}
 use lib.Dec.{eqb}
 use lib.ListN.{length, take, drop, length-drop, drop-of-length-le}
 use lib.Seq.{take-all, drop-drop}
 use borrow.Author.Tests.{eq-eqb, ne-eqb, eqb-false}
 use Rattle.laws.specs.Choice.{if_then_else_}
+use Rattle.laws.specs.Lists.{behind}
 use Rattle.calendar.specs.declared.Quarter.{Quarter}
 use Rattle.chars.specs.Characters.{capitals}
 use Rattle.lines.specs.Laws.{size-within}
@@ -44,10 +44,6 @@ unfolding calls
 skipped zero s walk t = refl
 skipped (suc skip) [] walk t = refl
 skipped (suc skip) (b ∷ s) walk t = skipped skip s walk t
-
-behind : (n b : ℕ) (s : List ℕ) → 1 ≤ n → drop (n - 1) s ≡ drop n (b ∷ s)
-behind zero b s h = absurd (omega arith)
-behind (suc n) b s h = rw sub-one
 
 module _ (walk : Walk) (t : Tables) where
   pub calls-end : calls all 0 [] walk t ≡ endStep walk t

@@ -1,0 +1,10 @@
+pub mod Turns
+pub mod Answers
+pub mod TurnLaws
+pub mod Program
+pub mod ProgramLaws
+pub mod Acknowledgement
+pub mod Means
+pub mod Room
+pub mod Once
+pub mod Keep
