@@ -41,6 +41,7 @@ unfolding turn
 header-short held t = at (leb 7 (length held)) refl where
   next : Turn
   next = linesTurn false 0 (drop 7 held) (openStep (headerQuarter held) t .walk) (openStep (headerQuarter held) t .left)
+
   at : (whole : Bool) → leb 7 (length held) ≡ whole → Short (if whole then next else record { progress = waiting; left = held; tables = t })
   at true e = lines-short (drop 7 held) 0 (openStep (headerQuarter held) t .walk) (openStep (headerQuarter held) t .left)
   at false e = let short : length held < 7 = leb-false 7 (length held) e in omega arith

@@ -34,8 +34,7 @@ loop-less c = omega (arith, c .before .loop-test .taken)
 
 loop-again : tie.Need-loop-again Inv-loop μ-loop
 loop-again c = let l = c .before .before .loop in let stop = c .before .before .before .least .ensures in let a = c .before .before .before .before .before .args in
-    let place = l .inv .0 in let same = l .inv .3 in
-    (
+    let place = l .inv .0 in let same = l .inv .3 in (
       omega (arith, place),
       omega (arith, place, c .before .loop-test .taken),
       length-set (l .buf) (l .n) _ ∙ l .inv .2,

@@ -41,10 +41,12 @@ same-length-4 c = omega (arith, c .before .before .before .finish .kept, c .befo
 
 returns-2 : tie.Need-returns-2 Inv-loop μ-loop
 returns-2 c = let a = c .before .before .before .before .before .before .before .before .before .before .before .before .before .before .before .before .before .before .before .before .before .before .args in let l = c .before .before .before .before .before .before .before .before .before .before .before .before .before .before .before .before .before .before .before .loop in let w = c .before .before .before .before .before .before .before .before .before .before .before .before .before .before .before .before .before .is-whole in let n = c .before .before .before .before .before .before .before .before .before .before .before .before .line in
-    let o = outOf (n .result) (tables (n .last .1 .1 .0) (entriesOf (n .last .1 .1 .1 .0))) in
-    (c .before .before .before .finish .ensures .0
-    ∙ sym (loop-refused (a .ended) (a .bytes .now) (l .at) (walkOf (l .st)) (tables (l .ids) (entriesOf (l .list))) o (c .before .before .before .before .before .before .before .before .before .before .before .before .before .before .before .before .before .before .loop-test .taken) (sym (w .ensures) ∙ not-false (w .result) (c .before .before .before .before .before .before .before .before .before .before .before .before .before .before .before .before .if1 .left)) (n .ensures) (sym (c .before .before .before .before .before .before .before .taken-in .ensures) ∙ c .before .before .before .before .before .before .if2 .taken))
-    ∙ l .inv .2, c .before .before .before .finish .ensures .1)
+    let o = outOf (n .result) (tables (n .last .1 .1 .0) (entriesOf (n .last .1 .1 .1 .0))) in (
+      c .before .before .before .finish .ensures .0
+          ∙ sym (loop-refused (a .ended) (a .bytes .now) (l .at) (walkOf (l .st)) (tables (l .ids) (entriesOf (l .list))) o (c .before .before .before .before .before .before .before .before .before .before .before .before .before .before .before .before .before .before .loop-test .taken) (sym (w .ensures) ∙ not-false (w .result) (c .before .before .before .before .before .before .before .before .before .before .before .before .before .before .before .before .if1 .left)) (n .ensures) (sym (c .before .before .before .before .before .before .before .taken-in .ensures) ∙ c .before .before .before .before .before .before .if2 .taken))
+          ∙ l .inv .2,
+      c .before .before .before .finish .ensures .1,
+    )
 
 add-at : tie.Need-add-at Inv-loop μ-loop
 add-at c = let a = c .before .before .before .before .before .before .before .before .before .before .before .before .before .before .before .before .args in let l = c .before .before .before .before .before .before .before .before .before .before .before .before .before .loop in let w = c .before .before .before .before .before .before .before .before .before .before .before .is-whole in let n = c .before .before .before .before .before .before .line in
