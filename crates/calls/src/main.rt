@@ -13,6 +13,9 @@
 //
 // The four calls and X print a line: number, line, column and bytes taken; the state; the ids; the entries. Zeros at the end of a table are left
 // out. X prints no ids, and the entries from 65,534 on.
+//
+// The program's memory is fixed, whatever the script's length: it holds 65,536 bytes of it at a time. A command that has more, its # included, ends the
+// program.
 mod print;
 mod script;
 
@@ -145,27 +148,69 @@ fn command_length(s: &[u8]) -> usize
     i
 }
 
-fn commands(input: &[u8], ids: &mut [u32], list: &mut [[u64; 3]]) {
-    let mut st = state::opened(state::no_quarter());
+// What a run over the bytes held leaves: the state, and how many of the bytes are whole commands. The others are to stand before the next read.
+struct Ran {
+    state: State,
+    taken: usize,
+}
+
+// Runs the whole commands among the bytes held.
+fn commands(first: State, held: &[u8], ids: &mut [u32], list: &mut [[u64; 3]]) -> Ran {
+    let mut st = first;
     let mut at = 0;
-    while at < input.len() {
-        let rest = &input[at..];
+    while at < held.len() {
+        let rest = &held[at..];
         let length = command_length(rest);
         if rest.len() <= length {
-            return;
+            return Ran {
+                state: st,
+                taken: at,
+            };
         }
         let end = at + length;
         let next = end + 1;
-        st = command(st, &input[at..end], ids, list);
+        st = command(st, &held[at..end], ids, list);
         at = next;
+    }
+    Ran {
+        state: st,
+        taken: at,
+    }
+}
+
+// Reads behind the bytes that are held, as far as there is room, and tells how many are held then.
+fn read_more(buf: &mut [u8], have: usize) -> usize
+    ensures { λ r. ⌜ r ≤ length (now (buf .exit)) ⌝ }
+{
+    let room = buf.len();
+    if room <= have {
+        return room;
+    }
+    have + io::read_full(libc::STDIN_FILENO, &mut buf[have..])
+}
+
+// Reads and runs until a read brings nothing: the script has ended, or a command that is not whole fills the buffer. No contract can say that an input
+// ends: the loop counts its reads down.
+fn run_all(buf: &mut [u8], ids: &mut [u32], list: &mut [[u64; 3]]) {
+    let mut st = state::opened(state::no_quarter());
+    let mut have: usize = 0;
+    let mut reads = u64::MAX;
+    while 0 < reads {
+        reads -= 1;
+        let end = read_more(buf, have);
+        if end <= have {
+            return;
+        }
+        let ran = commands(st, &buf[..end], ids, list);
+        st = ran.state;
+        have = ack::keep(buf, ran.taken, end);
     }
 }
 
 fn main() {
-    let mut buffer = io::large_buffer();
-    let n = io::read_full(0, &mut buffer);
+    let mut buf = io::large_buffer();
     let mut ids = [0u32; 40];
     let none = [0u64, 0, 0];
     let mut list = [none; 12];
-    commands(&buffer[..n], &mut ids, &mut list);
+    run_all(&mut buf, &mut ids, &mut list);
 }

@@ -1,0 +1,145 @@
+#!/usr/bin/env python3
+"""The proved programs against the independent reference in tests/reference-rs, byte for byte, on thousands of cases.
+
+    tests/program_cases.py             a fixed seed, and one more that is drawn and printed
+    tests/program_cases.py --seed N    a fixed seed, and N
+    tests/program_cases.py --all-bytes every byte value at every place of a small file, instead
+
+Files go through the program `batch` in reads of many sizes, call scripts through `calls`, and some files through `acknowledge` itself. It needs cargo, and
+the programs: `rt check acknowledge batch calls` builds them.
+"""
+import os
+import random
+import subprocess
+import sys
+import tempfile
+
+ROOT = os.path.dirname(os.path.dirname(os.path.abspath(__file__)))
+REFERENCE = os.path.join(ROOT, "tests", "reference-rs")
+BUILT = os.path.join(ROOT, "target", "reference-rs")
+RUN = os.path.join(ROOT, "tools", "run-program")
+
+FIXED_SEED = 1
+FIXED_CASES, DRAWN_CASES = 20000, 4000
+# A file that breaks 61 has more than 100,000 lines, so there are few of them and they are piped.
+LONG_CASES = 40
+SCRIPT_CALLS = 6000
+# How many of the first cases of each seed go through the program `acknowledge` as well.
+ALONE = 40
+
+passed = 0
+failed = 0
+
+
+def program(name):
+    return [RUN, os.path.join(ROOT, "target", "bin", name)]
+
+
+def reference(*arguments):
+    return [os.path.join(BUILT, "release", "reference"), *map(str, arguments)]
+
+
+def tell(what, cases, wrong):
+    global passed, failed
+    passed += cases - wrong
+    failed += wrong
+    print("%s: %d cases, %d differ" % (what, cases, wrong), flush=True)
+
+
+def fail(what):
+    global failed
+    failed += 1
+    print("FAILED %s" % what, flush=True)
+
+
+def build():
+    for command in (["build"], ["test"]):
+        done = subprocess.run(["cargo", *command, "--release", "--offline", "--quiet", "--target-dir", BUILT], cwd=REFERENCE, capture_output=True, text=True)
+        if done.returncode != 0:
+            print(done.stdout + done.stderr)
+            fail("the reference: cargo %s" % command[0])
+    tests = [line for line in done.stdout.splitlines() if line.startswith("test result")]
+    print("the reference's own tests: %s" % (tests or ["none"])[0])
+
+
+def answers(told):
+    """The answers of `batch`, or the expected ones: each ends with a line that has a full stop."""
+    return told.split(b".\n")[:-1]
+
+
+def compare(what, got, expected):
+    """Counts the answers that differ, and prints the first."""
+    wrong = [k for k in range(max(len(got), len(expected))) if got[k:k + 1] != expected[k:k + 1]]
+    if wrong:
+        k = wrong[0]
+        print("%s: case %d: the program says %r, the reference %r" % (what, k, got[k:k + 1], expected[k:k + 1]))
+    tell(what, len(expected), len(wrong))
+
+
+def made(kind, seed, count, folder, *flags):
+    """The reference writes inputs into a pipe that `batch` reads."""
+    inputs, expected = os.path.join(folder, "inputs"), os.path.join(folder, "expected")
+    os.mkfifo(inputs)
+    maker = subprocess.Popen(reference(kind, seed, count, inputs, expected, *flags), stdout=subprocess.PIPE, text=True)
+    with open(inputs, "rb") as pipe:
+        got = subprocess.run(program("batch"), stdin=pipe, stdout=subprocess.PIPE).stdout
+        while pipe.read(1 << 20):
+            pass
+    table = maker.communicate()[0]
+    os.unlink(inputs)
+    if maker.returncode != 0:
+        fail("the reference: %s %s %s" % (kind, seed, count))
+    with open(expected, "rb") as told:
+        return answers(got), answers(told.read()), table
+
+
+def through_batch(kind, seed, count, *flags):
+    with tempfile.TemporaryDirectory() as folder:
+        got, expected, table = made(kind, seed, count, folder, *flags)
+    compare("%s of seed %s" % (kind, seed), got, expected)
+    if seed == FIXED_SEED:
+        print("\n".join(line[:15] for line in table.splitlines()[:-2]))
+
+
+def through_calls(seed):
+    with tempfile.TemporaryDirectory() as folder:
+        script, expected = os.path.join(folder, "script"), os.path.join(folder, "told")
+        done = subprocess.run(reference("scripts", seed, SCRIPT_CALLS, script, expected), stdout=subprocess.PIPE, text=True)
+        if done.returncode != 0:
+            fail("the reference: scripts %s" % seed)
+        with open(script, "rb") as commands:
+            got = subprocess.run(program("calls"), stdin=commands, stdout=subprocess.PIPE).stdout
+        with open(expected, "rb") as told:
+            compare("calls of seed %s" % seed, got.splitlines(), told.read().splitlines())
+    if seed == FIXED_SEED:
+        print(done.stdout.strip())
+
+
+def alone(seed, count):
+    """The first cases through the program itself."""
+    got, expected = [], []
+    for k in range(ALONE):
+        case = subprocess.run(reference("one", seed, count, k), stdout=subprocess.PIPE, stderr=subprocess.DEVNULL).stdout
+        expected.append(subprocess.run(reference("ack"), input=case, stdout=subprocess.PIPE).stdout)
+        got.append(subprocess.run(program("acknowledge"), input=case, stdout=subprocess.PIPE).stdout)
+    compare("the program acknowledge, seed %s" % seed, got, expected)
+
+
+def main(arguments):
+    build()
+    if arguments == ["--all-bytes"]:
+        through_batch("cases", FIXED_SEED, 0, "--all-bytes")
+    else:
+        drawn = int(arguments[1]) if arguments[:1] == ["--seed"] else random.SystemRandom().randrange(1 << 32)
+        print("seeds: %d, and drawn: %d" % (FIXED_SEED, drawn))
+        for seed, count in ((FIXED_SEED, FIXED_CASES), (drawn, DRAWN_CASES)):
+            through_batch("cases", seed, count)
+            through_calls(seed)
+            alone(seed, count)
+        through_batch("long", FIXED_SEED, LONG_CASES)
+    print("%d passed, %d failed" % (passed, failed))
+    return 1 if failed else 0
+
+
+if __name__ == "__main__":
+    sys.exit(main(sys.argv[1:]))

@@ -1,0 +1,362 @@
+//! The command language of the program `calls`.
+//!
+//! A command ends with `#`. Its first character names it, digits in fixed columns follow (counted
+//! from 1, the name being the first), and then, where a call is lent bytes, a stroke and these:
+//!
+//! - `O`, opening: year 2-6, month 7-8, ids lent 9-10, entries lent 11-12
+//! - `L`, a line: ids lent 2-3, entries lent 4-5; bytes
+//! - `E`, the end: ids lent 2-3, entries lent 4-5
+//! - `W`, a whole file: as `O`; bytes
+//! - `S`, another state: where it stands 2, the refusal's number 3-4, line 5-14 and column 15-19,
+//!   lines read 20-29, the quarter held 30-36, A's 37-43, the open E's FEIN 44-53, whether it says
+//!   that S records follow 54, its S records 55-64 and cents 65-83, the file's S records 84-93,
+//!   employers 94-103 and cents 104-122, ids in use 123-132
+//! - `T`, another id and another entry: the id's place 2-3, the id 4-13, the entry's place 14-15, its
+//!   FEIN 16-25, count 26-35 and cents 36-54; a place behind a table's end alters nothing
+//! - `X`, a line, lent a list of 65,540 entries: the state has 65,535 employers, or one or two more,
+//!   by the digit in 2; bytes
+//!
+//! Here a command is written by the widths of its numbers and read by their columns, so that each
+//! checks the other.
+
+use crate::calendar::Quarter;
+use crate::edits::{Phase, Refusal};
+use crate::meaning::{Entry, Room};
+use crate::walk::{OpenE, Standing, State};
+
+#[derive(Clone, Debug, PartialEq, Eq)]
+pub enum Command {
+    Open {
+        held: Quarter,
+        lent: Room,
+    },
+    Line {
+        lent: Room,
+        bytes: Vec<u8>,
+    },
+    End {
+        lent: Room,
+    },
+    Whole {
+        held: Quarter,
+        lent: Room,
+        bytes: Vec<u8>,
+    },
+    State(State),
+    Tables(Alteration),
+    Beyond {
+        more: u64,
+        bytes: Vec<u8>,
+    },
+}
+
+/// Another id and another entry.
+#[derive(Clone, Copy, Debug, PartialEq, Eq)]
+pub struct Alteration {
+    pub id_at: usize,
+    pub id: u32,
+    pub entry_at: usize,
+    pub entry: Entry,
+}
+
+/// The numbers that the language can put into a refused state; another is read as the last.
+pub const NUMBERS: [u8; 8] = [1, 44, 63, 70, 71, 72, 80, 83];
+
+/// The phases in the order of their numbers.
+pub const PHASES: [Phase; 5] = [
+    Phase::BeforeA,
+    Phase::AfterA,
+    Phase::EOpen,
+    Phase::AfterT,
+    Phase::AfterF,
+];
+
+/// The number of where a walk stands: 0 to 4 the phases, 5 accepted, 6 refused.
+pub fn standing_number(standing: Standing) -> u64 {
+    match standing {
+        Standing::Among(phase) => {
+            let place = PHASES.iter().position(|one| *one == phase);
+            place.expect("there are five") as u64
+        }
+        Standing::Accepted => 5,
+        Standing::Refused(_) => 6,
+    }
+}
+
+/// The refusal that a state holds, and zeros if it holds none.
+pub fn refusal_held(standing: Standing) -> Refusal {
+    match standing {
+        Standing::Refused(refusal) => refusal,
+        _ => Refusal::new(0, 0, 0),
+    }
+}
+
+/// A command being written.
+struct Text(Vec<u8>);
+
+impl Text {
+    /// A number in so many digits.
+    fn number(&mut self, value: u64, width: usize) -> &mut Text {
+        let digits = format!("{value:0width$}");
+        assert_eq!(digits.len(), width, "{value} has at most {width} digits");
+        self.0.extend_from_slice(digits.as_bytes());
+        self
+    }
+
+    fn quarter(&mut self, quarter: Quarter) -> &mut Text {
+        self.number(quarter.year, 5).number(quarter.month, 2)
+    }
+
+    fn lent(&mut self, lent: Room) -> &mut Text {
+        self.number(lent.ids as u64, 2)
+            .number(lent.employers as u64, 2)
+    }
+
+    fn bytes(&mut self, bytes: &[u8]) {
+        assert!(!bytes.contains(&b'#'), "no byte ends the command");
+        self.0.push(b'|');
+        self.0.extend_from_slice(bytes);
+    }
+
+    fn state(&mut self, state: &State) {
+        let refusal = refusal_held(state.standing);
+        self.number(standing_number(state.standing), 1)
+            .number(refusal.number.into(), 2)
+            .number(refusal.line, 10)
+            .number(refusal.column, 5)
+            .number(state.lines_read, 10)
+            .quarter(state.held)
+            .quarter(state.quarter_of_a)
+            .number(state.open.fein, 10)
+            .number(state.open.says_s_follow.into(), 1)
+            .number(state.open.s, 10)
+            .number(state.open.cents, 19)
+            .number(state.s, 10)
+            .number(state.employers, 10)
+            .number(state.cents, 19)
+            .number(state.open.ids_in_use, 10);
+    }
+
+    fn alteration(&mut self, altered: &Alteration) {
+        self.number(altered.id_at as u64, 2)
+            .number(altered.id.into(), 10)
+            .number(altered.entry_at as u64, 2)
+            .number(altered.entry.fein, 10)
+            .number(altered.entry.count, 10)
+            .number(altered.entry.cents, 19);
+    }
+}
+
+impl Command {
+    fn letter(&self) -> u8 {
+        match self {
+            Command::Open { .. } => b'O',
+            Command::Line { .. } => b'L',
+            Command::End { .. } => b'E',
+            Command::Whole { .. } => b'W',
+            Command::State(_) => b'S',
+            Command::Tables(_) => b'T',
+            Command::Beyond { .. } => b'X',
+        }
+    }
+
+    /// The command as it stands in a script, without the end.
+    pub fn text(&self) -> Vec<u8> {
+        let mut text = Text(vec![self.letter()]);
+        match self {
+            Command::Open { held, lent } => drop(text.quarter(*held).lent(*lent)),
+            Command::Line { lent, bytes } => text.lent(*lent).bytes(bytes),
+            Command::End { lent } => drop(text.lent(*lent)),
+            Command::Whole { held, lent, bytes } => text.quarter(*held).lent(*lent).bytes(bytes),
+            Command::State(state) => text.state(state),
+            Command::Tables(altered) => text.alteration(altered),
+            Command::Beyond { more, bytes } => text.number(*more, 1).bytes(bytes),
+        }
+        text.0
+    }
+
+    /// The command that a text without its end is; none if it is no command.
+    pub fn read(text: &[u8]) -> Option<Command> {
+        let columns = Columns(text);
+        Some(match columns.0.first()? {
+            b'O' => Command::Open {
+                held: columns.quarter(2)?,
+                lent: columns.lent(9)?,
+            },
+            b'L' => Command::Line {
+                lent: columns.lent(2)?,
+                bytes: columns.bytes(6)?,
+            },
+            b'E' => Command::End {
+                lent: columns.lent(2)?,
+            },
+            b'W' => Command::Whole {
+                held: columns.quarter(2)?,
+                lent: columns.lent(9)?,
+                bytes: columns.bytes(13)?,
+            },
+            b'S' => Command::State(columns.state()?),
+            b'T' => Command::Tables(columns.alteration()?),
+            b'X' => Command::Beyond {
+                more: columns.number(2, 2)?,
+                bytes: columns.bytes(3)?,
+            },
+            _ => return None,
+        })
+    }
+}
+
+/// A command being read.
+struct Columns<'a>(&'a [u8]);
+
+impl Columns<'_> {
+    fn number(&self, first: usize, last: usize) -> Option<u64> {
+        let text = std::str::from_utf8(self.0.get(first - 1..last)?).ok()?;
+        text.parse().ok()
+    }
+
+    /// Year in five columns, month in two.
+    fn quarter(&self, first: usize) -> Option<Quarter> {
+        let year = self.number(first, first + 4)?;
+        Some(Quarter::new(year, self.number(first + 5, first + 6)?))
+    }
+
+    fn lent(&self, first: usize) -> Option<Room> {
+        Some(Room {
+            ids: self.number(first, first + 1)? as usize,
+            employers: self.number(first + 2, first + 3)? as usize,
+        })
+    }
+
+    /// What stands behind the stroke in this column.
+    fn bytes(&self, stroke: usize) -> Option<Vec<u8>> {
+        let (mark, bytes) = self.0.get(stroke - 1..)?.split_first()?;
+        (*mark == b'|').then(|| bytes.to_vec())
+    }
+
+    fn standing(&self) -> Option<Standing> {
+        let number = self.number(3, 4)? as u8;
+        let (line, column) = (self.number(5, 14)?, self.number(15, 19)?);
+        Some(match self.number(2, 2)? {
+            5 => Standing::Accepted,
+            phase @ 0..=4 => Standing::Among(PHASES[phase as usize]),
+            _ => {
+                let known = NUMBERS.contains(&number);
+                let number = if known { number } else { NUMBERS[7] };
+                Standing::Refused(Refusal::new(number, line, column))
+            }
+        })
+    }
+
+    fn state(&self) -> Option<State> {
+        Some(State {
+            standing: self.standing()?,
+            lines_read: self.number(20, 29)?,
+            held: self.quarter(30)?,
+            quarter_of_a: self.quarter(37)?,
+            open: OpenE {
+                fein: self.number(44, 53)?,
+                says_s_follow: self.number(54, 54)? == 1,
+                s: self.number(55, 64)?,
+                cents: self.number(65, 83)?,
+                ids_in_use: self.number(123, 132)?,
+            },
+            s: self.number(84, 93)?,
+            employers: self.number(94, 103)?,
+            cents: self.number(104, 122)?,
+        })
+    }
+
+    fn alteration(&self) -> Option<Alteration> {
+        Some(Alteration {
+            id_at: self.number(2, 3)? as usize,
+            id: u32::try_from(self.number(4, 13)?).ok()?,
+            entry_at: self.number(14, 15)? as usize,
+            entry: Entry {
+                fein: self.number(16, 25)?,
+                count: self.number(26, 35)?,
+                cents: self.number(36, 54)?,
+            },
+        })
+    }
+}
+
+#[cfg(test)]
+mod tests {
+    use super::*;
+
+    const LENT: Room = Room {
+        ids: 4,
+        employers: 3,
+    };
+
+    fn state() -> State {
+        State {
+            standing: Standing::Refused(Refusal::new(44, 3, 6)),
+            held: Quarter::new(2026, 6),
+            quarter_of_a: Quarter::new(2025, 12),
+            lines_read: 231_074,
+            employers: 3,
+            s: 7,
+            cents: 9_999_999_999_999_900_000,
+            open: OpenE {
+                fein: 12_345_678,
+                says_s_follow: true,
+                s: 2,
+                cents: 300,
+                ids_in_use: 1,
+            },
+        }
+    }
+
+    /// Typed by hand from the description above.
+    #[test]
+    fn commands_as_text() {
+        let held = Quarter::new(2026, 6);
+        let bytes = b"A\n".to_vec();
+        let altered = Alteration {
+            id_at: 1,
+            id: 4_294_967_295,
+            entry_at: 99,
+            entry: Entry {
+                fein: 7,
+                count: 8,
+                cents: 9,
+            },
+        };
+        for (command, text) in [
+            (Command::Open { held, lent: LENT }, "O02026060403"),
+            (Command::End { lent: LENT }, "E0403"),
+            (Command::Beyond { more: 2, bytes: bytes.clone() }, "X2|A\n"),
+            (Command::Line { lent: LENT, bytes: Vec::new() }, "L0403|"),
+            (Command::Whole { held, lent: LENT, bytes }, "W02026060403|A\n"),
+            (
+                Command::Tables(altered),
+                "T01429496729599000000000700000000080000000000000000009",
+            ),
+            (
+                Command::State(state()),
+                "S6440000000003000060000231074020260602025120012345678100000000020000000000000000300\
+                 0000000007000000000399999999999999000000000000001",
+            ),
+        ] {
+            assert_eq!(String::from_utf8(command.text()).unwrap(), text);
+            assert_eq!(Command::read(text.as_bytes()), Some(command));
+        }
+    }
+
+    #[test]
+    fn numbers_that_the_language_has_not() {
+        let mut text = Command::State(state()).text();
+        for (digits, number) in [(b"99", 83), (b"45", 83), (b"80", 80), (b"01", 1)] {
+            text[2..4].copy_from_slice(digits);
+            let Some(Command::State(read)) = Command::read(&text) else {
+                panic!("it is a state");
+            };
+            assert_eq!(read.standing, Standing::Refused(Refusal::new(number, 3, 6)));
+        }
+        assert_eq!(Command::read(b""), None);
+        assert_eq!(Command::read(b"Q0403"), None);
+        assert_eq!(Command::read(b"E040"), None);
+    }
+}

@@ -1,0 +1,188 @@
+//! An independent reference for the wage file acknowledgement, made from the paper (document 01),
+//! the source document 000 and the readings in docs/DECISIONS.md alone. It shares no code with the
+//! product.
+//!
+//! - `reference ack`: the whole input on standard input to the frames on standard output.
+//! - `reference cases SEED COUNT INPUTS EXPECTED [--small] [--all-bytes]`: writes COUNT inputs and
+//!   the outputs expected for them to two files (`framing` has their form), and prints how often
+//!   each number is the answer. `--small` leaves out the files that fill a table, `--all-bytes` adds
+//!   every byte value at every place of a small file. From 20,000 cases on it fails if a number
+//!   comes fewer than 20 times; 61 is left to the long files.
+//! - `reference long SEED COUNT INPUTS EXPECTED`: the same with long files alone. From 40 cases on it
+//!   fails if 61 comes fewer than 20 times.
+//! - `reference scripts SEED COUNT SCRIPT TOLD`: writes a script of COUNT calls or a few more in the
+//!   language of the program `calls` (`command` has it), and what that program must print. Prints how
+//!   often each number is the answer, and fails if 71 or 72 comes fewer than 20 times.
+//! - `reference calls`: a script on standard input to what the program must print.
+//! - `reference one SEED COUNT K`: the input of one of these cases (counted from 0) to standard
+//!   output, and what it is to standard error. With `--long` it is one of the long files.
+//! - `reference stats [SEED COUNT]`: the same table without writing, and with the readings in here
+//!   held against each other on every case (`agree`).
+
+mod ack;
+mod agree;
+mod big;
+mod bounds;
+mod breaks;
+mod calendar;
+mod command;
+mod draft;
+mod edits;
+mod framing;
+mod gen;
+mod layout;
+mod lines;
+mod meaning;
+mod mutations;
+mod pieces;
+mod program;
+mod rng;
+mod scripts;
+mod tables;
+mod tally;
+#[cfg(test)]
+mod tests;
+mod walk;
+
+use gen::{Case, Cases, Options};
+use rng::Rng;
+use scripts::Script;
+use std::io::{self, Read, Write};
+use std::process::ExitCode;
+use tally::Tally;
+
+const USAGE: &str = "usage: reference ack
+       reference cases SEED COUNT INPUTS EXPECTED [--small] [--all-bytes]
+       reference long SEED COUNT INPUTS EXPECTED
+       reference scripts SEED COUNT SCRIPT TOLD
+       reference calls
+       reference one SEED COUNT K [--small] [--all-bytes] [--long]
+       reference stats [SEED COUNT] [--small] [--all-bytes] [--long]";
+
+fn main() -> ExitCode {
+    match run() {
+        Ok(()) => ExitCode::SUCCESS,
+        Err(error) => {
+            eprintln!("reference: {error}");
+            ExitCode::FAILURE
+        }
+    }
+}
+
+fn run() -> Result<(), String> {
+    let (flags, words): (Vec<String>, Vec<String>) =
+        std::env::args().skip(1).partition(|w| w.starts_with("--"));
+    let mut options = options(&flags)?;
+    let words: Vec<&str> = words.iter().map(String::as_str).collect();
+    match words[..] {
+        ["ack"] => acknowledge().map_err(|e| e.to_string()),
+        ["cases", seed, count, inputs, expected] => {
+            write_cases(cases(seed, count, options)?, inputs, expected)
+        }
+        ["long", seed, count, inputs, expected] => {
+            options.long = true;
+            write_cases(cases(seed, count, options)?, inputs, expected)
+        }
+        ["one", seed, count, k] => {
+            let mut cases = cases(seed, count, options)?;
+            let case = cases.nth(number(k)? as usize).ok_or("no such case")?;
+            write_one_case(&case).map_err(|e| e.to_string())
+        }
+        ["scripts", seed, count, script, told] => {
+            write_script(scripts::make(number(seed)?, number(count)?), script, told)
+        }
+        ["calls"] => run_calls(),
+        ["stats"] => stats(Cases::new(1, 20_000, options)),
+        ["stats", seed, count] => stats(cases(seed, count, options)?),
+        _ => Err(USAGE.to_string()),
+    }
+}
+
+fn options(flags: &[String]) -> Result<Options, String> {
+    let mut options = Options::default();
+    for flag in flags {
+        match flag.as_str() {
+            "--small" => options.small = true,
+            "--all-bytes" => options.all_bytes = true,
+            "--long" => options.long = true,
+            _ => return Err(USAGE.to_string()),
+        }
+    }
+    Ok(options)
+}
+
+fn number(word: &str) -> Result<u64, String> {
+    word.parse().map_err(|_| format!("{word} is no number"))
+}
+
+fn cases(seed: &str, count: &str, options: Options) -> Result<Cases, String> {
+    Ok(Cases::new(number(seed)?, number(count)?, options))
+}
+
+fn acknowledge() -> io::Result<()> {
+    let mut input = Vec::new();
+    io::stdin().read_to_end(&mut input)?;
+    io::stdout().write_all(&ack::answer(&input))
+}
+
+fn run_calls() -> Result<(), String> {
+    let mut script = Vec::new();
+    io::stdin()
+        .read_to_end(&mut script)
+        .map_err(|e| e.to_string())?;
+    let output = program::run_script(&script)?;
+    io::stdout().write_all(&output).map_err(|e| e.to_string())
+}
+
+fn write_one_case(case: &Case) -> io::Result<()> {
+    eprintln!("{} ({}), meant: {:?}", case.group, case.name, case.meant);
+    eprintln!("in reads of {} bytes", case.piece);
+    let outcome = ack::outcome(&case.input);
+    eprint!("{}", String::from_utf8_lossy(&ack::frames(&outcome)));
+    io::stdout().write_all(&case.input)
+}
+
+fn stats(cases: Cases) -> Result<(), String> {
+    let mut tally = Tally::default();
+    let promised = cases.promised();
+    for (k, case) in cases.enumerate() {
+        tally.count(&case, &ack::outcome(&case.input));
+        agree::check(&case.input, &mut Rng::of(1, 60, k as u64))
+            .map_err(|what| format!("case {k} ({}): disagreement about {what}", case.group))?;
+    }
+    tally.finish(promised)
+}
+
+fn write_cases(cases: Cases, inputs: &str, expected: &str) -> Result<(), String> {
+    let mut tally = Tally::default();
+    let promised = cases.promised();
+    let mut inputs = framing::create(inputs)?;
+    let mut expected = framing::create(expected)?;
+    for case in cases {
+        let outcome = ack::outcome(&case.input);
+        tally.count(&case, &outcome);
+        framing::write_input(&mut inputs, &case.input, case.piece)
+            .and_then(|()| framing::write_expected(&mut expected, &ack::frames(&outcome)))
+            .map_err(|e| e.to_string())?;
+    }
+    for file in [&mut inputs, &mut expected] {
+        file.flush().map_err(|e| e.to_string())?;
+    }
+    tally.finish(promised)
+}
+
+fn write_script(script: Script, text: &str, told: &str) -> Result<(), String> {
+    if script.text.len() > scripts::LONGEST {
+        return Err(format!("the script has {} bytes", script.text.len()));
+    }
+    std::fs::write(text, &script.text).map_err(|e| format!("{text}: {e}"))?;
+    std::fs::write(told, &script.told).map_err(|e| format!("{told}: {e}"))?;
+    println!("number    calls");
+    for number in script.numbers.seen() {
+        println!("{number:>6} {:>8}", script.numbers.times(number));
+    }
+    println!("   all {:>8}", script.numbers.all());
+    println!("{} fixed scenes left out", script.fixed_scenes_left);
+    println!("{} bytes of script", script.text.len());
+    script.numbers.check(scripts::PROMISED)
+}

@@ -1,0 +1,220 @@
+//! Scripts for the program `calls`, and what it must print.
+//!
+//! A script is made of scenes, each of a few commands that belong together: fixed ones, which come
+//! in every script that is long enough, and others by chance.
+
+mod afterwards;
+mod broken;
+mod calls;
+mod chance;
+mod lengths;
+mod moments;
+mod near;
+mod records;
+mod totals;
+mod unfit;
+
+use crate::calendar::Quarter;
+use crate::command::{Alteration, Command};
+use crate::meaning::Room;
+use crate::program::{Program, KEPT};
+use crate::rng::Rng;
+use crate::tables::Tables;
+use crate::tally::Numbers;
+use crate::walk::State;
+use moments::Moment;
+
+/// The room that the program has for a script.
+pub const LONGEST: usize = 2_000_000;
+
+/// The numbers that no file gets: of them each script has enough.
+pub const PROMISED: [u8; 2] = [71, 72];
+
+/// While there are fixed scenes left, so many of them come to each one by chance.
+const FIXED_TO_CHANCE: usize = 3;
+
+type Scene = Box<dyn Fn(&mut Rng, &mut Script)>;
+
+/// The commands so far, what is printed for them, and the program as they leave it.
+pub struct Script {
+    pub text: Vec<u8>,
+    pub told: Vec<u8>,
+    pub numbers: Numbers,
+    /// How many fixed scenes had no room.
+    pub fixed_scenes_left: usize,
+    program: Program,
+    /// How much of the tables the calls to come are lent.
+    lent: Room,
+}
+
+/// A script of so many calls or a few more.
+pub fn make(seed: u64, calls: u64) -> Script {
+    let mut rng = Rng::of(seed, 70, 0);
+    let mut script = Script::new();
+    // The program starts with a quarter that none allows.
+    script.end();
+    script.line(b"A\n");
+    let mut fixed = fixed_scenes();
+    rng.shuffle(&mut fixed);
+    while script.numbers.all() < calls {
+        for _ in 0..FIXED_TO_CHANCE {
+            if let Some(scene) = fixed.pop() {
+                scene(&mut rng, &mut script);
+            }
+        }
+        chance::scene(&mut rng, &mut script);
+    }
+    script.fixed_scenes_left = fixed.len();
+    script
+}
+
+fn fixed_scenes() -> Vec<Scene> {
+    let mut scenes = Vec::new();
+    unfit::add(&mut scenes);
+    lengths::add(&mut scenes);
+    afterwards::add(&mut scenes);
+    totals::add(&mut scenes);
+    broken::add(&mut scenes);
+    scenes
+}
+
+/// A script's bytes may hold no end of a command; no edit tells `#` from `$`.
+fn without_ends(bytes: &[u8]) -> Vec<u8> {
+    let other = |byte: &u8| if *byte == b'#' { b'$' } else { *byte };
+    bytes.iter().map(other).collect()
+}
+
+impl Script {
+    fn new() -> Script {
+        Script {
+            text: Vec::new(),
+            told: Vec::new(),
+            numbers: Numbers::default(),
+            fixed_scenes_left: 0,
+            program: Program::new(),
+            lent: KEPT,
+        }
+    }
+
+    /// Writes a command, and has the program do what is written.
+    fn add(&mut self, command: Command) {
+        let text = command.text();
+        let read = Command::read(&text).expect("it is a command");
+        assert_eq!(read, command);
+        self.text.extend_from_slice(&text);
+        self.text.push(b'#');
+        if let Some(told) = self.program.run(&read) {
+            self.numbers.count(told.number);
+            self.told.extend(told.line);
+        }
+    }
+
+    fn open(&mut self, held: Quarter) {
+        let lent = self.lent;
+        self.add(Command::Open { held, lent });
+    }
+
+    fn line(&mut self, bytes: &[u8]) {
+        let (lent, bytes) = (self.lent, without_ends(bytes));
+        self.add(Command::Line { lent, bytes });
+    }
+
+    fn end(&mut self) {
+        let lent = self.lent;
+        self.add(Command::End { lent });
+    }
+
+    fn whole(&mut self, held: Quarter, bytes: &[u8]) {
+        let (lent, bytes) = (self.lent, without_ends(bytes));
+        self.add(Command::Whole { held, lent, bytes });
+    }
+
+    fn beyond(&mut self, more: u64, bytes: &[u8]) {
+        let bytes = without_ends(bytes);
+        self.add(Command::Beyond { more, bytes });
+    }
+
+    fn state(&self) -> State {
+        self.program.state
+    }
+
+    fn tables(&self) -> &Tables {
+        &self.program.tables
+    }
+
+    fn set_state(&mut self, state: State) {
+        if state != self.state() {
+            self.add(Command::State(state));
+        }
+    }
+
+    /// Alters the kept tables where they are not as these, as far as these go.
+    fn set_tables(&mut self, wanted: &Tables) {
+        let kept = self.tables();
+        let ids = (0..wanted.ids.len()).filter(|p| kept.ids[*p] != wanted.ids[*p]);
+        let entries = (0..wanted.list.len()).filter(|p| kept.list[*p] != wanted.list[*p]);
+        let (ids, entries): (Vec<usize>, Vec<usize>) = (ids.collect(), entries.collect());
+        for k in 0..ids.len().max(entries.len()) {
+            // A place behind the table alters nothing.
+            let id_at = ids.get(k).copied().unwrap_or(KEPT.ids);
+            let entry_at = entries.get(k).copied().unwrap_or(KEPT.employers);
+            self.add(Command::Tables(Alteration {
+                id_at,
+                id: wanted.ids.get(id_at).copied().unwrap_or(1),
+                entry_at,
+                entry: wanted.list.get(entry_at).copied().unwrap_or_default(),
+            }));
+        }
+    }
+
+    fn set(&mut self, moment: &Moment) {
+        self.set_tables(&moment.tables);
+        self.set_state(moment.state);
+    }
+}
+
+#[cfg(test)]
+mod tests {
+    use super::*;
+    use crate::program::run_script;
+    use crate::tally::answers;
+
+    #[test]
+    fn scripts_of_6000_calls() {
+        for seed in 1..=5 {
+            let script = make(seed, 6_000);
+            assert!(script.numbers.all() >= 6_000);
+            assert!(script.text.len() <= LONGEST, "{}", script.text.len());
+            assert_eq!(script.fixed_scenes_left, 0);
+            assert_eq!(script.numbers.check(PROMISED), Ok(()));
+            // Every number that a file gets comes too.
+            let missing: Vec<u8> = answers()
+                .filter(|number| script.numbers.times(*number) == 0)
+                .collect();
+            assert_eq!(missing, []);
+        }
+    }
+
+    #[test]
+    fn what_is_told_is_told_of_the_text() {
+        let script = make(7, 1_000);
+        assert_eq!(run_script(&script.text), Ok(script.told));
+    }
+
+    #[test]
+    fn as_few_commands_as_are_needed() {
+        let mut script = Script::new();
+        let zeros = Tables::zero(KEPT);
+        script.set_tables(&zeros);
+        script.set_state(script.state());
+        assert_eq!(script.text, b"");
+        script.set_tables(&Tables {
+            ids: vec![0, 5, 0],
+            list: zeros.list.clone(),
+        });
+        // The second id; the thirteenth entry, which there is not.
+        let text = b"T01000000000512000000000000000000000000000000000000000#";
+        assert_eq!(script.text, text);
+        assert_eq!(script.tables().ids[..3], [0, 5, 0]);
+    }
+}

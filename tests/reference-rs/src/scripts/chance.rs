@@ -1,0 +1,169 @@
+//! Scenes by chance: altered states, walks with incidents, whole files.
+
+use super::broken::broken;
+use super::moments::{rest_of, walked};
+use super::near;
+use super::records::{line_for, piece, short_line, too_little};
+use super::Script;
+use crate::breaks;
+use crate::draft::{random_fein, random_id, valid, Draft, Line, Size, LF};
+use crate::layout::LENGTH;
+use crate::lines::first_line;
+use crate::meaning::{Entry, Room};
+use crate::program::KEPT;
+use crate::rng::Rng;
+use crate::tables::Tables;
+use crate::walk::Standing;
+
+/// Room enough for every file made here.
+const ENOUGH: Room = Room {
+    ids: 3,
+    employers: 3,
+};
+const SIZE: Size = Size {
+    employers: 3,
+    employees: 2,
+};
+
+pub fn scene(rng: &mut Rng, script: &mut Script) {
+    match rng.below(12) {
+        0..=6 => altered_state(rng, script),
+        7..=9 => walk(rng, script),
+        _ => whole(rng, script),
+    }
+}
+
+/// A valid file, or one with a break.
+fn some_draft(rng: &mut Rng) -> Draft {
+    let breaks = breaks::all();
+    let one = &breaks[rng.index(breaks.len())];
+    match rng.one_in(2) {
+        true => broken(rng, one).map_or_else(|| valid(rng, SIZE), |(draft, _)| draft),
+        false => valid(rng, SIZE),
+    }
+}
+
+fn some_room(rng: &mut Rng) -> Room {
+    match rng.one_in(3) {
+        true => Room {
+            ids: rng.pick(&[0, 1, 2, 3, 4, 40]),
+            employers: rng.pick(&[0, 1, 2, 3, 12]),
+        },
+        false => ENOUGH,
+    }
+}
+
+/// A walked state with one or two numbers altered, and some calls.
+fn altered_state(rng: &mut Rng, script: &mut Script) {
+    let draft = valid(rng, SIZE);
+    let lines = rng.index(draft.lines.len() + 1);
+    let mut moment = walked(&draft, lines, ENOUGH);
+    near::alter(rng, &mut moment.state);
+    script.lent = some_room(rng);
+    script.set(&moment);
+    let rest = rest_of(&draft, lines);
+    if rng.one_in(4) {
+        alter_tables(rng, script, &rest);
+    }
+    if rng.one_in(6) {
+        script.end();
+    }
+    let state = script.state();
+    match rng.below(4) {
+        0 if !rest.is_empty() => script.line(piece(rng, &rest)),
+        1 => script.line(short_line(rng)),
+        _ => script.line(&line_for(rng, &state, &moment.tables)),
+    }
+    script.end();
+    if rng.one_in(2) {
+        script.line(short_line(rng));
+    }
+}
+
+/// Another id and another entry, in use or not; often those that the next record has.
+fn alter_tables(rng: &mut Rng, script: &mut Script, rest: &[u8]) {
+    let mut tables = Tables {
+        ids: script.tables().ids[..ENOUGH.ids].to_vec(),
+        list: script.tables().list[..ENOUGH.employers].to_vec(),
+    };
+    let (id_at, entry_at) = (rng.index(ENOUGH.ids), rng.index(ENOUGH.employers));
+    let id = random_id(rng) as u32;
+    tables.ids[id_at] = rng.pick(&[id, 0, u32::MAX, next_columns(rest, 2, 10) as u32]);
+    let fein = random_fein(rng);
+    tables.list[entry_at] = Entry {
+        fein: rng.pick(&[fein, 0, 9_999_999_999, next_columns(rest, 6, 14)]),
+        count: rng.below(100_000),
+        cents: rng.next() >> 1,
+    };
+    script.set_tables(&tables);
+}
+
+/// The value of some columns of the next record, if there is one.
+fn next_columns(rest: &[u8], first: usize, last: usize) -> u64 {
+    let text = first_line(rest).text;
+    match text.len() == LENGTH {
+        true => Line::new(text.to_vec(), LF).value(first, last),
+        false => 0,
+    }
+}
+
+/// A walk from its opening to its end and beyond, in which something may come between.
+fn walk(rng: &mut Rng, script: &mut Script) {
+    let draft = some_draft(rng);
+    let file = draft.file();
+    let mut rest = &file[..];
+    script.lent = some_room(rng);
+    script.open(draft.held);
+    let calm = rng.one_in(2);
+    while !rest.is_empty() && matches!(script.state().standing, Standing::Among(_)) {
+        if !calm && rng.one_in(6) {
+            incident(rng, script, rest);
+        }
+        let read = script.state().lines_read;
+        script.line(piece(rng, rest));
+        if script.state().lines_read == read {
+            break;
+        }
+        rest = &rest[first_line(rest).taken()..];
+    }
+    script.end();
+    for _ in 0..rng.below(3) {
+        script.line(short_line(rng));
+        script.end();
+    }
+}
+
+/// Tables of another length or content, another state, or a call that comes too early.
+fn incident(rng: &mut Rng, script: &mut Script, rest: &[u8]) {
+    match rng.below(7) {
+        0 | 1 => alter_tables(rng, script, rest),
+        2 => script.lent = some_room(rng),
+        3 => {
+            let mut state = script.state();
+            near::alter(rng, &mut state);
+            script.set_state(state);
+        }
+        4 => script.lent = KEPT,
+        5 => script.line(too_little(rng, rest)),
+        _ => script.end(),
+    }
+}
+
+/// A whole file under small tables.
+fn whole(rng: &mut Rng, script: &mut Script) {
+    let draft = some_draft(rng);
+    let mut file = draft.file();
+    if rng.one_in(4) {
+        file.truncate(rng.index(file.len() + 1));
+    }
+    script.lent = Room {
+        ids: rng.index(4),
+        employers: rng.index(4),
+    };
+    if rng.one_in(2) {
+        alter_tables(rng, script, &file);
+    }
+    script.whole(draft.held, &file);
+    script.end();
+    script.line(short_line(rng));
+}

@@ -1,0 +1,76 @@
+//! The cases that are made here, and files of 65,536 employers.
+
+use super::{refused, Q1};
+use crate::ack::outcome;
+use crate::agree;
+use crate::big;
+use crate::draft::*;
+use crate::edits::Refusal;
+use crate::gen::{Cases, Options};
+use crate::meaning::{acknowledge, Entry, Outcome, Room};
+use crate::rng::Rng;
+use crate::tally::Tally;
+use crate::walk;
+
+/// The maker of each case knows what it gets, and the readings here agree.
+#[test]
+fn generated_cases() {
+    let options = Options {
+        small: true,
+        ..Options::default()
+    };
+    let cases = Cases::new(3, 20_000, options);
+    let promised = cases.promised();
+    assert_eq!(promised.len(), 52);
+    let mut tally = Tally::default();
+    for (k, case) in cases.enumerate() {
+        tally.count(&case, &outcome(&case.input));
+        let agreed = agree::check(&case.input, &mut Rng::of(3, 60, k as u64));
+        assert_eq!(agreed, Ok(()), "{}", case.name);
+    }
+    assert_eq!(tally.finish(promised), Ok(()));
+}
+
+/// Long files, with tables exactly full and one more.
+#[test]
+fn long_files() {
+    let mut cases = Vec::new();
+    for k in 0..8 {
+        let mut rng = Rng::of(4, 50, k);
+        cases.push(big::full(&mut rng, k));
+        cases.push(big::ids_overflow(&mut rng));
+        cases.push(big::employers_overflow(&mut rng));
+    }
+    // All kinds of the first round, and of the later ones those that differ from round to round.
+    for k in (0..40).filter(|k| *k < 10 || k % 2 == 1) {
+        cases.push(big::long(&mut Rng::of(4, 51, k), k));
+    }
+    let mut tally = Tally::default();
+    for case in cases {
+        tally.count(&case, &outcome(&case.input));
+    }
+    assert_eq!(tally.finish(Vec::new()), Ok(()));
+}
+
+/// "Only the first 65,536 entries of the employer list are used."
+#[test]
+fn most_employers() {
+    let employ = |fein| Employer {
+        fein,
+        employees: Vec::new(),
+    };
+    let employers: Vec<Employer> = (0..65_537).map(employ).collect();
+    let room = Room {
+        ids: 0,
+        employers: 70_000,
+    };
+    let exactly = tidy(Q1, Q1, &employers[..65_536]).file();
+    let found = acknowledge(Q1, room, &exactly);
+    assert!(matches!(found, Outcome::Accepted(_)));
+    let more = tidy(Q1, Q1, &employers).file();
+    let line_of_last_e = 2 * 65_536 + 2;
+    assert_eq!(acknowledge(Q1, room, &more), refused(63, line_of_last_e, 6));
+    let mut list = vec![Entry::default(); 70_000];
+    let (_, answer) = walk::whole(Q1, &mut [], &mut list, &more);
+    assert_eq!(answer, Some(Refusal::new(63, line_of_last_e, 6)));
+}
