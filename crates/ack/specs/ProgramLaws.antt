@@ -100,7 +100,7 @@ lines-ended (b ∷ rest) zero walk t =
 
 -- ---- the header
 -- It stands in the first seven bytes.
-header-held : (held future : List ℕ) → 7 ≤ length held → headerQuarter held ≡ headerQuarter (held ++ future)
+pub header-held : (held future : List ℕ) → 7 ≤ length held → headerQuarter held ≡ headerQuarter (held ++ future)
 unfolding headerQuarter
 header-held held future h =
     let number : numberIn held 1 6 ≡ numberIn (held ++ future) 1 6 =

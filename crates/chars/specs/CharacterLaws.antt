@@ -1,12 +1,12 @@
 -- The laws of characters that later layers cite.
 use Prim.Native.Nat.{ℕ, zero, suc, _+_, _-_, _<_, _≤_}
 use mathlib.Core.Path.{_≡_, refl, sym, ap, _∙_}
-use mathlib.Core.Bool.{Bool, true, false, _&&_}
+use mathlib.Core.Bool.{Bool, true, false, _&&_, _||_, false≢true}
 use mathlib.Core.List.{List, [], _∷_}
 use native.Mathlib.Omega.{arith}
-use lib.Dec.{leb}
+use lib.Dec.{eqb, leb}
 use lib.ListN.{length, getD, take, drop, length-map, List·getD-map}
-use borrow.Author.Tests.{le-leb, lt-leb}
+use borrow.Author.Tests.{eqb-true, eqb-false, le-leb, lt-leb, eq-eqb, ne-eqb}
 use Rattle.laws.specs.Choice.{if_then_else_, within}
 use Rattle.chars.specs.Characters.{capitalOf, capitals, isDigit}
 
@@ -57,3 +57,22 @@ capital-is-digit c = by-case c (leb 97 c && leb c 122) refl
 pub capital-of-digit : (c : ℕ) → isDigit c ≡ true → capitalOf c ≡ c
 unfolding capitalOf
 capital-of-digit c d = let r = digit-range c d in rw (lt-leb 97 c (omega arith))
+
+-- A letter of A to Z is read where it stands, or its small letter.
+module _ (c letter : ℕ) (low : 65 ≤ letter) (high : letter ≤ 90) where
+  by-letter : (small here smaller : Bool) → leb 97 c && leb c 122 ≡ small → eqb c letter ≡ here → eqb c (letter + 32) ≡ smaller
+      → eqb (if small then c - 32 else c) letter ≡ here || smaller
+  by-letter true true y e p q = let w = within 97 c 122 e in let same = eqb-true c letter p in absurd (omega arith)
+  by-letter true false true e p q = let same = eqb-true c (letter + 32) q in eq-eqb (c - 32) letter (omega arith)
+  by-letter true false false e p q =
+      let w = within 97 c 122 e in
+      ne-eqb (c - 32) letter (λ s. eqb-false c (letter + 32) q (omega arith))
+  by-letter false true y e p q = p
+  by-letter false false true e p q =
+      let same = eqb-true c (letter + 32) q in
+      absurd (false≢true (sym e ∙ rw (le-leb 97 c (omega arith), le-leb c 122 (omega arith))))
+  by-letter false false false e p q = p
+
+  pub capital-is : eqb (capitalOf c) letter ≡ eqb c letter || eqb c (letter + 32)
+  unfolding capitalOf
+  capital-is = by-letter (leb 97 c && leb c 122) (eqb c letter) (eqb c (letter + 32)) refl refl refl

@@ -2,3 +2,4 @@ pub mod Characters
 pub mod CharacterLaws
 pub mod Columns
 pub mod ColumnLaws
+pub mod Agree

@@ -67,6 +67,9 @@ pub all-append : (a b : List Edit) → AllFine (a ++ b) → AllFine a × AllFine
 all-append [] b all = (tt, all)
 all-append (edit ∷ edits) b all = let rest = all-append edits b (all .1) in ((all .0, rest .0), rest .1)
 
+pub append-fine : (a b : List Edit) → firstBroken (a ++ b) ≡ fine → (firstBroken a ≡ fine) × (firstBroken b ≡ fine)
+append-fine a b e = both-fine (firstBroken a) (firstBroken b) (sym (first-append a b) ∙ e)
+
 -- ---- the first
 -- The finding is that of one edit of the list, and none of those before it is broken.
 pub record FirstIn (edits : List Edit) (column number : ℕ) : Type 0 where

@@ -8,3 +8,4 @@ pub mod Parts
 pub mod Lists
 pub mod ListLaws
 pub mod Numbered
+pub mod Alike

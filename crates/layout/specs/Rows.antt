@@ -11,7 +11,7 @@ use lib.Seq.{getD-append-add}
 use borrow.Author.Tests.{eqb-true}
 use Rattle.laws.specs.Choice.{both-hold}
 use Rattle.laws.specs.Table.{every, at}
-use Rattle.field.specs.declared.class.Class.the-variants.{TaxYear, EmployerFein, IdentityNumber, Period}
+use Rattle.field.specs.declared.class.Class.the-variants.{RecordLetter, BlankSpace, Numeric, PersonName, EntityCode, TaxYear, EmployerFein, IdentityNumber, Period}
 use Rattle.layout.specs.Fields.{row, fieldsOfA, fieldsOfE, fieldsOfS, fieldsOfT, fieldsOfF, records, rowsOf, fields, noRow, starts, firstField}
 
 pub five-records : length records ≡ 5
@@ -124,3 +124,10 @@ fields-of-E = refl
 pub fields-of-S : length fieldsOfS ≡ 13
 unfolding fieldsOfS
 fields-of-S = refl
+
+-- The rows of S, one by one, where a rule is proved of each.
+pub rows-of-S : fieldsOfS
+    ≡ row RecordLetter 1 1 ∷ row IdentityNumber 2 10 ∷ row PersonName 11 30 ∷ row PersonName 31 42 ∷ row BlankSpace 43 45 ∷ row Period 46 47 ∷ row TaxYear 48 51
+    ∷ row BlankSpace 52 63 ∷ row Numeric 64 77 ∷ row BlankSpace 78 142 ∷ row EntityCode 143 146 ∷ row Numeric 147 155 ∷ row BlankSpace 156 290 ∷ []
+unfolding fieldsOfS
+rows-of-S = refl

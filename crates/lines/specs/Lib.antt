@@ -4,3 +4,4 @@ pub mod Laws
 pub mod Outcomes
 pub mod Window
 pub mod Once
+pub mod Changed

@@ -5,14 +5,15 @@ use mathlib.Core.Bool.{Bool, true, false, _||_}
 use mathlib.Core.List.{List}
 use native.Mathlib.Nat.{add-zero, pow-suc, pow-zero, pow-le-pow-right, one-le-pow}
 use native.Mathlib.Omega.{arith}
-use lib.Dec.{eqb, leb, ltb, lit<}
+use lib.Dec.{eqb, ltb, lit<}
 use lib.ListN.{length, getD, set, take, length-set}
 use lib.Seq.{getD-set-same, getD-set-other, getD-take}
-use borrow.Author.Tests.{leb-true, leb-false, lt-ltb, le-ltb, ne-eqb}
+use borrow.Author.Tests.{lt-ltb, le-ltb, ne-eqb}
 use Rattle.laws.specs.Choice.{if_then_else_}
 use Rattle.laws.specs.Finding.{Finding, fine, broken, orElse, firstOf, Reading, value, refused, findingIn}
 use Rattle.laws.specs.Steps.{left-suc, left-none}
 use Rattle.chars.specs.Characters.{capitals, isDigit}
+use Rattle.chars.specs.Agree.{Agree}
 use Rattle.chars.specs.CharacterLaws.{capital-at, capital-is-digit, capital-of-digit, digit-range, digit-is}
 use Rattle.chars.specs.Columns.{widthOf, allowedTest, everyColumn}
 use Rattle.chars.specs.ColumnLaws.{column-says, every-says}
@@ -104,25 +105,27 @@ pub value-below : (line : List ℕ) (first last : ℕ) → valueIn line first la
 unfolding valueIn
 value-below line first last = reading-below (numberIn line first last) (widthOf first last) (number-below line first last)
 
--- ---- the columns in front
-from-in-front : (n k : ℕ) (line : List ℕ) (v at : ℕ) → at + k ≤ n → numberFrom (take n line) v at k ≡ numberFrom line v at k
+-- ---- the columns that a number is read from
+from-alike : (n : ℕ) (u v : List ℕ) (w at : ℕ) → Agree u v (at + 1) (at + n) → numberFrom u w at n ≡ numberFrom v w at n
 unfolding numberFrom
-from-in-front n zero line v at h = refl
-from-in-front n (suc k) line v at h =
-    let c = getD line at 0 in
-    rw (getD-take n line at 0 (omega arith), from-in-front n k line (v * 10 + (c - 48)) (at + 1) (omega arith))
+from-alike zero u v w at agree = refl
+from-alike (suc n) u v w at agree =
+    let c = getD v at 0 in
+    rw (agree at (omega arith) (omega arith), from-alike n u v (w * 10 + (c - 48)) (at + 1) (λ k low high. agree k (omega arith) (omega arith)))
 
--- A field that ends in column n or before reads the same in the first n columns.
-pub number-in-front : (n : ℕ) (line : List ℕ) (first last : ℕ) → last ≤ n → numberIn (take n line) first last ≡ numberIn line first last
+-- A field reads the same in lines that agree in its columns.
+pub number-alike : (u v : List ℕ) (first last : ℕ) → Agree u v first last → numberIn u first last ≡ numberIn v first last
 unfolding numberIn
-number-in-front n line first last h = at (leb last (first - 1)) refl where
-  at : (t : Bool) → leb last (first - 1) ≡ t → numberIn (take n line) first last ≡ numberIn line first last
-  at true e =
-      let none = leb-true last (first - 1) e in
-      no-width (take n line) first last none ∙ sym (no-width line first last none)
-  at false e =
-      let some = leb-false last (first - 1) e in
-      rw (from-in-front n (widthOf first last) line 0 (first - 1) (omega arith))
+number-alike u v first last agree =
+    rw (from-alike (widthOf first last) u v 0 (first - 1) (λ k low high. agree k (omega arith) (omega arith)))
+
+pub value-alike : (u v : List ℕ) (first last : ℕ) → Agree u v first last → valueIn u first last ≡ valueIn v first last
+unfolding valueIn
+value-alike u v first last agree = ap valueOf (number-alike u v first last agree)
+
+-- So it does in the first n columns, if it ends in column n or before.
+pub number-in-front : (n : ℕ) (line : List ℕ) (first last : ℕ) → last ≤ n → numberIn (take n line) first last ≡ numberIn line first last
+number-in-front n line first last h = number-alike (take n line) line first last (λ at low high. getD-take n line at 0 (omega arith))
 
 pub value-in-front : (n : ℕ) (line : List ℕ) (first last : ℕ) → last ≤ n → valueIn (take n line) first last ≡ valueIn line first last
 unfolding valueIn

@@ -1,6 +1,6 @@
 -- The rules of numbers, edit by edit: the class test, then the rule of the value.
 use Prim.Native.Nat.{ℕ, _-_, _<_, _≤_}
-use mathlib.Core.Path.{_≡_, refl, sym, _∙_}
+use mathlib.Core.Path.{_≡_, refl, sym, ap, _∙_}
 use mathlib.Core.Bool.{Bool, true, false, not}
 use mathlib.Core.List.{List}
 use native.Mathlib.Omega.{arith}
@@ -9,11 +9,12 @@ use Rattle.laws.specs.Choice.{if_then_else_}
 use Rattle.laws.specs.Finding.{fine, orElse, Reading, value, refused, findingIn}
 use Rattle.laws.specs.Numbered.{Between, Within, broken-within}
 use Rattle.calendar.specs.Quarters.{isFilingYear, isQuarterMonth}
+use Rattle.chars.specs.Agree.{Agree}
 use Rattle.chars.specs.Columns.{widthOf, everyColumn, unless}
 use Rattle.chars.specs.ColumnLaws.{unless-fine, unless-within}
 use Rattle.chars.specs.declared.columns.Allowed.the-variants.{Digits}
 use Rattle.number.specs.Numbers.{numberIn, valueOf, valueIn}
-use Rattle.number.specs.NumberLaws.{digits-read}
+use Rattle.number.specs.NumberLaws.{digits-read, number-alike}
 use Rattle.number.specs.Rules.{onlyIf, onlyOwn, yearIn, periodIn, flagIn, feinIn, beginsWith69, identityIn, mayBeFiled}
 
 -- The value of a field is that of its reading.
@@ -56,6 +57,10 @@ own-passes passes first number (refused column other) e = let z : _≡_ {A = ℕ
 pub period-fine : (line : List ℕ) (first last : ℕ) → findingIn (periodIn line first last) ≡ fine → isQuarterMonth (valueIn line first last) ≡ true
 unfolding periodIn valueIn
 period-fine line first last e = own-passes isQuarterMonth first 40 (numberIn line first last) e
+
+pub period-alike : (u v : List ℕ) (first last : ℕ) → Agree u v first last → periodIn u first last ≡ periodIn v first last
+unfolding periodIn
+period-alike u v first last agree = ap (onlyOwn isQuarterMonth first 40) (number-alike u v first last agree)
 
 -- ---- the numbers of the refusals: a rule that gives its own number gives no other
 module _ (least most : ℕ) where

@@ -41,17 +41,24 @@ module _ (here : Context) (seen : Seen) where
   head-passes text kind e = text-parts text kind ∙ rw e
 
   -- Cutting, then the edits of the text.
+  pub line-parts : (line : Line) → firstBroken (lineEdits here seen line)
+      ≡ orElse (findingIn (cutting 290 line)) (firstBroken (textEdits here seen (capitals (line .text)) (kindOn (capitals (line .text)))))
+  line-parts line =
+      let text = capitals (line .text) in
+      let rest = firstBroken (textEdits here seen text (kindOn text)) in
+      first-cons _ _ ∙ ap (orElse (lengthTest 290 line)) (first-cons _ _) ∙ sym (or-assoc (lengthTest 290 line) (endTest 290 line) rest)
+      ∙ ap (λ (f : Finding). orElse f rest) (sym (cut-parts 290 line))
+
+  pub cut-breaks : (line : Line) (column number : ℕ) → cutting 290 line ≡ refused column number → firstBroken (lineEdits here seen line) ≡ broken column number
+  cut-breaks line column number e = line-parts line ∙ rw e
+
   pub judge-parts : (line : Line) → judge here seen line
       ≡ verdictBy (orElse (findingIn (cutting 290 line)) (firstBroken (textEdits here seen (capitals (line .text)) (kindOn (capitals (line .text))))))
       (sizeOf line) (saidBy (kindOn (capitals (line .text))) (capitals (line .text)))
   unfolding judge
   judge-parts line =
       let text = capitals (line .text) in
-      let rest = firstBroken (textEdits here seen text (kindOn text)) in
-      let all : firstBroken (lineEdits here seen line) ≡ orElse (findingIn (cutting 290 line)) rest =
-      first-cons _ _ ∙ ap (orElse (lengthTest 290 line)) (first-cons _ _) ∙ sym (or-assoc (lengthTest 290 line) (endTest 290 line) rest)
-      ∙ ap (λ (f : Finding). orElse f rest) (sym (cut-parts 290 line)) in
-      ap (λ (f : Finding). verdictBy f (sizeOf line) (saidBy (kindOn text) text)) all
+      ap (λ (f : Finding). verdictBy f (sizeOf line) (saidBy (kindOn text) text)) (line-parts line)
 
   pub cut-refuses : (line : Line) (column number : ℕ) → cutting 290 line ≡ refused column number → judge here seen line ≡ refusal column number
   cut-refuses line column number e = judge-parts line ∙ rw e

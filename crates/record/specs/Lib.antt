@@ -9,3 +9,8 @@ pub mod Listed
 pub mod Among
 pub mod Passed
 pub mod Numbered
+pub mod Employees
+pub mod Letters
+pub mod Alike
+pub mod EmployeeLaws
+pub mod Blot

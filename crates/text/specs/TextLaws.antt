@@ -1,10 +1,11 @@
 -- The laws of text, of patterns and of addresses.
-use Prim.Native.Nat.{ℕ, _+_, _<_, _≤_}
+use Prim.Native.Nat.{ℕ, _+_, _-_, _<_, _≤_}
 use mathlib.Core.Path.{_≡_, refl}
 use mathlib.Core.Bool.{Bool, true, false, not, _||_}
-use mathlib.Core.List.{List}
+use mathlib.Core.List.{List, [], _∷_}
 use native.Mathlib.Nat.{add-zero}
 use native.Mathlib.Numerals.{add-one}
+use native.Mathlib.Omega.{arith}
 use lib.ListN.{length, getD, drop, drop-of-length-le}
 use lib.Seq.{drop-cons, drop-drop, getD-drop}
 use Rattle.laws.specs.Choice.{if_then_else_}
@@ -12,10 +13,11 @@ use Rattle.laws.specs.Finding.{fine, broken, orElse}
 use Rattle.laws.specs.Numbered.{Between, Within, fine-within, broken-within}
 use Rattle.codes.specs.declared.Region.{Region}
 use Rattle.codes.specs.declared.Region.the-variants.{State, Province, Unknown}
+use Rattle.chars.specs.Agree.{Agree, agree-from}
 use Rattle.chars.specs.Columns.{unless}
 use Rattle.chars.specs.ColumnLaws.{unless-within}
 use Rattle.text.specs.Address.{stateTest, zipTest, extensionTest}
-use Rattle.text.specs.Text.{allBlank, isIndented, textTest, requiredText, optionalText, isAsked, readsAs, entityTest}
+use Rattle.text.specs.Text.{allBlank, isIndented, textTest, requiredText, optionalText, isAsked, readsAs, hasPattern, entityTest}
 
 -- ---- a pattern from the symbol i on
 module _ (text pattern : List ℕ) (i : ℕ) where
@@ -35,6 +37,19 @@ module _ (text pattern : List ℕ) (i : ℕ) where
         → readsAs (drop i text) (drop i pattern) ≡ readsAs (drop (i + 1) text) (drop (i + 1) pattern)
     unfolding readsAs
     pattern-more d = rw (drop-cons pattern i 0 h, asked-here, d, drop-drop 1 i text, add-one i)
+
+-- ---- a pattern in two lines that agree where it stands
+reads-alike : (pattern u v : List ℕ) → Agree u v 1 (length pattern) → readsAs u pattern ≡ readsAs v pattern
+unfolding readsAs
+reads-alike [] u v agree = refl
+reads-alike (symbol ∷ symbols) u v agree =
+    let rest = agree-from u v 2 (length symbols) (λ at low high. agree at (omega arith) (omega arith)) in
+    rw (agree 0 (omega arith) (omega arith), reads-alike symbols (drop 1 u) (drop 1 v) rest)
+
+pub pattern-alike : (pattern u v : List ℕ) (first : ℕ) → Agree u v first (first - 1 + length pattern) → hasPattern u first pattern ≡ hasPattern v first pattern
+unfolding hasPattern
+pattern-alike pattern u v first agree =
+    reads-alike pattern (drop (first - 1) u) (drop (first - 1) v) (agree-from u v first (length pattern) agree)
 
 -- ---- required and optional text, edit by edit
 required-tests : (blank indented : Bool) (first : ℕ)

@@ -1,0 +1,98 @@
+-- nothing-of-the-employee, demand 3: what an acknowledgement and the lent tables tell of two files that are alike is the same.
+use Prim.Native.Nat.{ℕ}
+use mathlib.Core.Bool.{Bool, true, false}
+use mathlib.Core.List.{List, [], _++_}
+use mathlib.Core.Path.{_≡_, refl, sym, ap, _∙_}
+use native.Mathlib.Nat.{le-of-eq}
+use native.Mathlib.Omega.{arith}
+use lib.ListN.{length}
+use lib.Seq.{drop-at}
+use Rattle.calendar.specs.Quarters.{isAllowed}
+use Rattle.calendar.specs.declared.Quarter.{Quarter}
+use Rattle.lines.specs.Changed.{changed-lines}
+use Rattle.lines.specs.Lines.{linesOf}
+use Rattle.edits.specs.declared.Phase.the-variants.{BeforeA, EOpen}
+use Rattle.record.specs.Blot.{blot-keeps}
+use Rattle.record.specs.Employees.{blot}
+use Rattle.tables.specs.Room.{Room, Tables, roomOf}
+use Rattle.meaning.specs.Meaning.{meaning}
+use Rattle.step.specs.Steps.{Out}
+use Rattle.walk.specs.Calls.{Lending, walked, wholeFile}
+use Rattle.walk.specs.Means.{walk-means}
+use Rattle.frames.specs.Frames.{framing}
+use Rattle.ack.specs.Acknowledgement.{programRoom, fileFrames, acknowledgement}
+use Rattle.ack.specs.ProgramLaws.{header-held}
+use Rattle.ack.specs.Turns.{headerSize, headerQuarter}
+use Rattle.alike.specs.Alike.{Alike, AlikeLines}
+use Rattle.alike.specs.Level.{Level, shut}
+use Rattle.alike.specs.Lines.{Same, alike-ends}
+
+-- Before the first line there is no record.
+level-none : Level [] []
+level-none =
+    record {
+      lines = refl;
+      phase = refl;
+      filed = refl;
+      fein = refl;
+      follow = refl;
+      count = refl;
+      all-count = refl;
+      employers = refl;
+      used = refl;
+      feins = refl;
+      closed = refl;
+      sums = refl;
+    }
+
+before-e : BeforeA ≡ EOpen → ⊥
+before-e e = let z : _≡_ {A = ℕ} 0 1 = cc in omega arith
+
+module _ (one other : List ℕ) (alike : Alike one other) where
+  -- Both files have the same lines and ends but for the employees.
+  pub lines-alike : AlikeLines (linesOf one) (linesOf other)
+  lines-alike =
+      record {
+        equal-bytes = changed-lines blot blot-keeps one other (alike .equal-bytes);
+        own-one = alike .own-one;
+        own-other = alike .own-other;
+        zero-alike = alike .zero-alike;
+        repeat-alike = alike .repeat-alike;
+        wages-alike = alike .wages-alike;
+      }
+
+  same : (room : Room) (held : Quarter) → Same room held [] [] (linesOf one) (linesOf other)
+  same room held = alike-ends room held (linesOf one) (linesOf other) [] [] lines-alike level-none (shut before-e refl refl refl)
+
+  -- They mean the same, whatever the quarter and the room.
+  pub meaning-alike : (room : Room) (held : Quarter) → meaning room held one ≡ meaning room held other
+  meaning-alike room held = same room held .0
+
+  whole-alike : (held : Quarter) (t : Tables) → wholeFile held one t ≡ wholeFile held other t
+  whole-alike held t = by (isAllowed held) refl where
+    by : (allowed : Bool) → isAllowed held ≡ allowed → wholeFile held one t ≡ wholeFile held other t
+    by true e = rw e (same (roomOf t) held .1)
+    by false e = rw e
+
+  -- Through the calls, with the same quarter, any quarter, and the same tables, with a lending for each file: the answer, the state and every lent table at
+  -- the end.
+  pub nothing-of-the-employee : (held : Quarter) (t : Tables) (lend lend' : ℕ → ℕ) → Lending lend → Lending lend'
+      → walked lend held one t ≡ walked lend' held other t
+  nothing-of-the-employee held t lend lend' lending lending' =
+      walk-means lend lending held one t ∙ whole-alike held t ∙ sym (walk-means lend' lending' held other t)
+
+  -- So the frames of that state and list are the same, in every buffer.
+  pub frames-alike : (held : Quarter) (t : Tables) (lend lend' : ℕ → ℕ) → Lending lend → Lending lend' → (out : List ℕ)
+      → framing (walked lend held one t .walk) (walked lend held one t .left .list) out
+      ≡ framing (walked lend' held other t .walk) (walked lend' held other t .left .list) out
+  frames-alike held t lend lend' lending lending' out =
+      ap (λ (o : Out). framing (o .walk) (o .left .list) out) (nothing-of-the-employee held t lend lend' lending lending')
+
+  file-alike : (held : Quarter) → fileFrames held one ≡ fileFrames held other
+  file-alike held = rw (meaning-alike programRoom held)
+
+  -- "the acknowledgement is the same byte for byte": of the program, under any seven bytes of header.
+  pub acknowledgement-alike : (header : List ℕ) → length header ≡ headerSize → acknowledgement (header ++ one) ≡ acknowledgement (header ++ other)
+  acknowledgement-alike header seven = answers one ∙ file-alike (headerQuarter header) ∙ sym (answers other) where
+    answers : (file : List ℕ) → acknowledgement (header ++ file) ≡ fileFrames (headerQuarter header) file
+    answers file = rw (← header-held header file (le-of-eq (sym seven)), drop-at header file 7 seven)

@@ -1,0 +1,65 @@
+-- Two files that are alike, behind as many lines of each: what their records come to is the same, but for the employees' numbers and for the wages of an E that is
+-- still open.
+use Prim.Native.Nat.{ℕ, _+_}
+use mathlib.Core.List.{List, []}
+use mathlib.Core.Path.{_≡_}
+use native.Mathlib.Omega.{arith}
+use lib.ListN.{length}
+use Rattle.calendar.specs.declared.Quarter.{Quarter}
+use Rattle.edits.specs.declared.Open.{Open}
+use Rattle.edits.specs.declared.Phase.the-variants.{EOpen}
+use Rattle.edits.specs.declared.Totals.{Totals}
+use Rattle.lines.specs.Lines.{Line}
+use Rattle.record.specs.Employees.{withoutWages}
+use Rattle.record.specs.declared.said.Said.{Said}
+use Rattle.tables.specs.Room.{Room}
+use Rattle.tables.specs.Tables.{isAmong}
+use Rattle.meaning.specs.Before.{phaseAfter, filedIn, openIn, idsUnder, totalsIn, feinsIn, closedIn}
+use Rattle.meaning.specs.Meaning.{contextAt}
+use Rattle.alike.specs.Alike.{under, repeatsAfter, wagesOf}
+
+pub record Level (p q : List Said) : Type 0 where
+  pub lines : length p ≡ length q
+  pub phase : phaseAfter p ≡ phaseAfter q
+  pub filed : filedIn p ≡ filedIn q
+  pub fein : openIn p .fein ≡ openIn q .fein
+  pub follow : openIn p .follow ≡ openIn q .follow
+  pub count : openIn p .count ≡ openIn q .count
+  pub all-count : totalsIn p .count ≡ totalsIn q .count
+  pub employers : totalsIn p .employers ≡ totalsIn q .employers
+  pub used : length (idsUnder p) ≡ length (idsUnder q)
+  pub feins : feinsIn p ≡ feinsIn q
+  pub closed : closedIn p ≡ closedIn q
+  pub sums : totalsIn p .sum + openIn q .sum ≡ totalsIn q .sum + openIn p .sum
+
+-- The numbers other than zero under the open E are those that stand on the S records so far.
+abbrev pub Holds : List Said → List ℕ → Type 0
+Holds p earlier = (id : ℕ) → (id ≡ 0 → ⊥) → isAmong id (idsUnder p) ≡ isAmong id earlier
+
+-- No E is open; or one is, and the S records to come make its repeats and its wages alike.
+pub data Run (p q : List Said) (one other : List Line) : Type 0 where
+  shut : (phaseAfter p ≡ EOpen → ⊥) → openIn p .sum ≡ openIn q .sum → idsUnder p ≡ [] → idsUnder q ≡ [] → Run p q one other
+  running : (earlier before : List ℕ) → Holds p earlier → Holds q before → repeatsAfter earlier (under one) ≡ repeatsAfter before (under other)
+      → openIn p .sum + wagesOf (under one) ≡ openIn q .sum + wagesOf (under other) → Run p q one other
+
+-- ---- what is the same
+same-open : (a b : Open) → a .fein ≡ b .fein → a .follow ≡ b .follow → a .count ≡ b .count → a .sum ≡ b .sum → a ≡ b
+same-open a b fein follow count sum = rw (fein, follow, count, sum)
+
+same-totals : (a b : Totals) → a .count ≡ b .count → a .employers ≡ b .employers → a .sum ≡ b .sum → a ≡ b
+same-totals a b count employers sum = rw (count, employers, sum)
+
+module _ (p q : List Said) (level : Level p q) where
+  -- With the same wages under the open E all is the same.
+  module _ (sum : openIn p .sum ≡ openIn q .sum) where
+    pub open-alike : openIn p ≡ openIn q
+    open-alike = same-open (openIn p) (openIn q) (level .fein) (level .follow) (level .count) sum
+
+    pub totals-alike : totalsIn p ≡ totalsIn q
+    totals-alike = same-totals (totalsIn p) (totalsIn q) (level .all-count) (level .employers) (omega (arith, level .sums, sum))
+
+    pub context-same : (room : Room) (held : Quarter) → contextAt room held p ≡ contextAt room held q
+    context-same room held = rw (level .phase, level .filed, level .used, open-alike, totals-alike)
+
+  pub context-alike : (room : Room) (held : Quarter) → withoutWages (contextAt room held p) ≡ withoutWages (contextAt room held q)
+  context-alike room held = rw (level .phase, level .filed, level .used, level .fein, level .follow, level .count, level .all-count, level .employers)

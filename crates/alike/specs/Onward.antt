@@ -1,0 +1,156 @@
+-- A record further, two files that are alike still come to the same.
+use Prim.Native.Nat.{ℕ}
+use mathlib.Core.Bool.{Bool, true, false, _||_}
+use mathlib.Core.List.{List, [], _∷_, _++_}
+use mathlib.Core.Path.{_≡_, refl, sym, ap, _∙_}
+use native.Mathlib.Omega.{arith}
+use lib.Dec.{eqb}
+use lib.ListN.{length, length-append}
+use borrow.Author.Tests.{eqb-true, ne-eqb}
+use Rattle.lines.specs.Lines.{Line}
+use Rattle.edits.specs.declared.Phase.the-variants.{AfterA, EOpen, AfterT, AfterF}
+use Rattle.record.specs.declared.said.EmployeeOn.{EmployeeOn}
+use Rattle.record.specs.declared.said.EmployerOn.{EmployerOn}
+use Rattle.record.specs.declared.said.Said.{Said}
+use Rattle.record.specs.declared.said.Said.the-variants.{OfA, OfE, OfS, OfT, OfF, OfNone}
+use Rattle.tables.specs.Laws.{among-none, among-append}
+use Rattle.tables.specs.Steps.{among-more}
+use Rattle.tables.specs.Tables.{isAmong}
+use Rattle.meaning.specs.Before.{andId, idsUnder, openIn}
+use Rattle.alike.specs.Alike.{under, repeats, wagesOf}
+use Rattle.alike.specs.Level.{Level, Holds, Run, shut, running, open-alike}
+
+-- ---- an S record
+among-one : (v x : ℕ) → isAmong v (x ∷ []) ≡ eqb x v
+among-one v x = among-more v (x ∷ []) 0 (omega arith) ∙ ap (λ (b : Bool). b || eqb x v) (among-none v)
+
+or-none : (a : Bool) → (a || false) ≡ a
+or-none true = refl
+or-none false = refl
+
+-- Its number takes room in both files or in neither.
+room-alike : (ids numbers : List ℕ) (i j : ℕ) (zero : Bool) → eqb i 0 ≡ zero → eqb j 0 ≡ zero → length ids ≡ length numbers → length (andId ids i) ≡ length (andId numbers j)
+room-alike ids numbers i j true e f same = rw (e, f) same
+room-alike ids numbers i j false e f same = rw (e, f) (simp length-append (omega arith))
+
+-- It stands among those so far.
+holds-by : (ids earlier : List ℕ) (i : ℕ) (zero : Bool) → eqb i 0 ≡ zero → (id : ℕ) → (id ≡ 0 → ⊥) → isAmong id ids ≡ isAmong id earlier
+    → isAmong id (andId ids i) ≡ isAmong id (earlier ++ (i ∷ []))
+holds-by ids earlier i true e id some same =
+    rw e (same ∙ sym (among-append id earlier (i ∷ [])
+    ∙ ap (λ (b : Bool). isAmong id earlier || b) (among-one id i ∙ ne-eqb i id (λ is. some (sym is ∙ eqb-true i 0 e)))
+    ∙ or-none (isAmong id earlier)))
+holds-by ids earlier i false e id some same =
+    rw e (among-append id ids (i ∷ []) ∙ ap (λ (b : Bool). b || isAmong id (i ∷ [])) same ∙ sym (among-append id earlier (i ∷ [])))
+
+pub holds-more : (p : List Said) (employee : EmployeeOn) (earlier : List ℕ) → Holds p earlier → Holds (OfS employee ∷ p) (earlier ++ (employee .id ∷ []))
+holds-more p employee earlier holds id some = holds-by (idsUnder p) earlier (employee .id) (eqb (employee .id) 0) refl id some (holds id some)
+
+pub level-employee : (p q : List Said) (a b : EmployeeOn) → Level p q → eqb (a .id) 0 ≡ eqb (b .id) 0 → Level (OfS a ∷ p) (OfS b ∷ q)
+level-employee p q a b level zero =
+    record {
+      lines = rw (level .lines);
+      phase = refl;
+      filed = level .filed;
+      fein = level .fein;
+      follow = level .follow;
+      count = rw (level .count);
+      all-count = rw (level .all-count);
+      employers = level .employers;
+      used = room-alike (idsUnder p) (idsUnder q) (a .id) (b .id) (eqb (a .id) 0) refl (sym zero) (level .used);
+      feins = level .feins;
+      closed = level .closed;
+      sums = omega (arith, level .sums);
+    }
+
+-- ---- any other record, the same in both files
+abbrev pub Other : Said → Type 0
+Other (OfA quarter) = Unit {0}
+Other (OfE employer) = Unit {0}
+Other (OfS employee) = ⊥
+Other OfT = Unit {0}
+Other OfF = Unit {0}
+Other OfNone = ⊥
+
+module _ (p q : List Said) (level : Level p q) (sum : openIn p .sum ≡ openIn q .sum) where
+  pub level-other : (said : Said) → Other said → Level (said ∷ p) (said ∷ q)
+  level-other (OfA quarter) other =
+      record {
+        lines = rw (level .lines);
+        phase = refl;
+        filed = refl;
+        fein = refl;
+        follow = refl;
+        count = refl;
+        all-count = level .all-count;
+        employers = level .employers;
+        used = refl;
+        feins = level .feins;
+        closed = level .closed;
+        sums = omega (arith, level .sums, sum);
+      }
+  level-other (OfE employer) other =
+      record {
+        lines = rw (level .lines);
+        phase = refl;
+        filed = level .filed;
+        fein = refl;
+        follow = refl;
+        count = refl;
+        all-count = level .all-count;
+        employers = rw (level .employers);
+        used = refl;
+        feins = rw (level .feins);
+        closed = level .closed;
+        sums = omega (arith, level .sums, sum);
+      }
+  level-other (OfS employee) other = absurd other
+  level-other OfT other =
+      record {
+        lines = rw (level .lines);
+        phase = refl;
+        filed = level .filed;
+        fein = refl;
+        follow = refl;
+        count = refl;
+        all-count = level .all-count;
+        employers = level .employers;
+        used = refl;
+        feins = level .feins;
+        closed = rw (level .closed, open-alike p q level sum);
+        sums = omega (arith, level .sums, sum);
+      }
+  level-other OfF other =
+      record {
+        lines = rw (level .lines);
+        phase = refl;
+        filed = level .filed;
+        fein = refl;
+        follow = refl;
+        count = refl;
+        all-count = level .all-count;
+        employers = level .employers;
+        used = refl;
+        feins = level .feins;
+        closed = level .closed;
+        sums = omega (arith, level .sums, sum);
+      }
+  level-other OfNone other = absurd other
+
+  -- Only an E begins a run.
+  pub run-other : (said : Said) → Other said → (one other : List Line)
+      → ((employer : EmployerOn) → said ≡ OfE employer → (repeats (under one) ≡ repeats (under other)) × (wagesOf (under one) ≡ wagesOf (under other)))
+      → Run (said ∷ p) (said ∷ q) one other
+  run-other (OfA quarter) is one other begins = shut (λ e. after-a e) refl refl refl where
+    after-a : AfterA ≡ EOpen → ⊥
+    after-a e = let z : _≡_ {A = ℕ} 0 1 = cc in omega arith
+  run-other (OfE employer) is one other begins =
+      let begun = begins employer refl in running [] [] (λ id some. refl) (λ id some. refl) (begun .0) (rw (begun .1))
+  run-other (OfS employee) is one other begins = absurd is
+  run-other OfT is one other begins = shut (λ e. after-t e) refl refl refl where
+    after-t : AfterT ≡ EOpen → ⊥
+    after-t e = let z : _≡_ {A = ℕ} 0 1 = cc in omega arith
+  run-other OfF is one other begins = shut (λ e. after-f e) refl refl refl where
+    after-f : AfterF ≡ EOpen → ⊥
+    after-f e = let z : _≡_ {A = ℕ} 0 1 = cc in omega arith
+  run-other OfNone is one other begins = absurd is

@@ -1,0 +1,116 @@
+-- The cases a to l of "Checked by hand", proved together as one table: each is a whole file, and its outcome is computed from the definitions.
+-- A computed example has to open the definitions that it computes with, those of crates below it too. Nothing rests on it.
+use Prim.Native.Nat.{ℕ}
+use Prim.Native.String.{String}
+use mathlib.Core.List.{List, [], _∷_, _++_, map}
+use mathlib.Core.Path.{_≡_, refl}
+use Rattle.laws.specs.Finding.{firstOf}
+use Rattle.laws.specs.Text.{bytes}
+use Rattle.reason.specs.Numbers.{notice}
+use Rattle.lines.specs.Cutting.{lengthTest, endTest}
+use Rattle.lines.specs.Lines.{isEnd, textOf, endOf, linesFrom}
+use Rattle.calendar.specs.Dates.{isLeap, monthDays, daysIn, isDate, inQuarter}
+use Rattle.calendar.specs.Quarters.{isFilingYear, isQuarterMonth, isAfter}
+use Rattle.calendar.specs.declared.Quarter.{Quarter}
+use Rattle.codes.specs.Codes as Codes
+use Rattle.chars.specs.Characters.{isPermitted, capitalOf, capitals, isBlank, isDigit, isLetter, isOfName}
+use Rattle.chars.specs.Columns.{columnTest, everyColumn}
+use Rattle.number.specs.Numbers.{numberFrom, numberIn, valueIn}
+use Rattle.number.specs.Rules.{periodIn, flagIn, beginsWith69, mayBeFiled}
+use Rattle.text.specs.Text.{allBlank, isIndented, isAsked, readsAs, hasPattern}
+use Rattle.field.specs.Classes.{classes, classOf}
+use Rattle.layout.specs.Fields.{fieldsOfA, fieldsOfE, fieldsOfS, fieldsOfT, fieldsOfF}
+use Rattle.edits.specs.Fields.{ruleList, ruleOf}
+use Rattle.edits.specs.Lists.{fieldEdits}
+use Rattle.record.specs.Kinds.{kindOf}
+use Rattle.record.specs.Rules.{rulesOfA, rulesOfE, rulesOfS, rulesOfT, rulesOfF}
+use Rattle.tables.specs.Room.{Room}
+use Rattle.tables.specs.Tables.{isAmong}
+use Rattle.meaning.specs.Meaning.{editsFrom, firstOfFile, recordsOnto, Outcome, accepted, refused, meaning}
+use Rattle.cases.specs.Example.{Change, reads, lacks, hasMore, exampleWith}
+
+-- "Tables: 1,024 employers, 8,192 ids."
+abbrev room : Room
+room = record { ids = 8192; list = 1024 }
+
+-- The last closed quarter: no file below is of a later one.
+abbrev held : Quarter
+held = record { year = 2028; month = 3 }
+
+-- A case: its letter, a file, and what the paper says of the file.
+pub record Case : Type 0 where
+  pub letter : String
+  pub file : List ℕ
+  pub stated : Outcome
+
+abbrev case : String → List ℕ → Outcome → Case
+case letter file stated = record { letter = letter; file = file; stated = stated }
+
+-- What the definitions say of it.
+abbrev pub computed : Case → Outcome
+computed c = meaning room held (c .file)
+
+-- "passes": the file is accepted, with its employer of this FEIN and the totals of the two employees.
+abbrev passes : ℕ → Outcome
+passes fein = accepted (record { fein = fein; count = 2; cents = 123500 } ∷ []) (record { count = 2; employers = 1; sum = 123500 })
+
+-- Another year, on A, E and S.
+abbrev inYear : String → List Change
+inYear year = reads 1 2 year ∷ reads 2 2 year ∷ reads 3 48 year ∷ reads 4 48 year ∷ []
+
+-- Another FEIN, on E, S and T.
+abbrev ofEmployer : String → List Change
+ofEmployer fein = reads 2 6 fein ∷ reads 3 147 fein ∷ reads 4 147 fein ∷ reads 5 13 fein ∷ []
+
+-- A final return, with its cease date.
+abbrev ceased : String → List Change
+ceased date = reads 2 282 "1" ∷ reads 2 283 date ∷ []
+
+-- A refusal is told as its number, line and column; a change as its line, its column and the text there.
+abbrev pub table : List Case
+table =
+    -- "a. Empty file: 5 at line 1, column 1."
+    case "a" [] (refused (notice 5 1 1)) ∷
+    -- "b. 289 characters: 1 at 290."
+    case "b" (exampleWith (lacks 1 290 ∷ [])) (refused (notice 1 1 290)) ∷
+    -- "c. 291: 1 at 291."
+    case "c" (exampleWith (hasMore 1 291 0x20 ∷ [])) (refused (notice 1 1 291)) ∷
+    -- "d. LF CR after a record: next line empty, 1 at 1." CR is 13.
+    case "d" (exampleWith (hasMore 2 1 13 ∷ [])) (refused (notice 1 2 1)) ∷
+    -- "e. 02292028 is a date; 02292027 isn't."
+    case "e" (exampleWith (inYear "2028" ++ ceased "02292028")) (passes 12345678) ∷
+    case "e" (exampleWith (inYear "2027" ++ ceased "02292027")) (refused (notice 48 2 283)) ∷
+    -- "f. Quarter 03 of 2026 holds 03312026, not 04012026."
+    case "f" (exampleWith (ceased "03312026")) (passes 12345678) ∷
+    case "f" (exampleWith (ceased "04012026")) (refused (notice 49 2 283)) ∷
+    -- "g. FEIN 690000000: 44; 700000000 passes."
+    case "g" (exampleWith (ofEmployer "690000000")) (refused (notice 44 2 6)) ∷
+    case "g" (exampleWith (ofEmployer "700000000")) (passes 700000000) ∷
+    -- "h. 665999999 passes; 666000001: 52."
+    case "h" (exampleWith (reads 3 2 "665999999" ∷ [])) (passes 12345678) ∷
+    case "h" (exampleWith (reads 3 2 "666000001" ∷ [])) (refused (notice 52 3 2)) ∷
+    -- "i. 000000000 twice under one E passes."
+    case "i" (exampleWith (reads 3 2 "000000000" ∷ reads 4 2 "000000000" ∷ [])) (passes 12345678) ∷
+    -- "j. `K1A 0` passes with ON, 36 with ME." With ON the extension, in 159, is a province's too.
+    case "j" (exampleWith (reads 1 139 "ON" ∷ reads 1 154 "K1A 0" ∷ reads 1 159 "B1" ∷ [])) (passes 12345678) ∷
+    case "j" (exampleWith (reads 1 139 "ME" ∷ reads 1 154 "K1A 0" ∷ [])) (refused (notice 36 1 154)) ∷
+    -- "k. `-1061` passes with ME."
+    case "k" (exampleWith (reads 2 139 "ME" ∷ reads 2 149 "-1061" ∷ [])) (passes 12345678) ∷
+    -- "l. `O'NEIL-ROY` passes; `ANNE2`: 54 at its fifth column.": 35 is the fifth from 31 on
+    case "l" (exampleWith (reads 3 11 "O'NEIL-ROY" ∷ [])) (passes 12345678) ∷
+    case "l" (exampleWith (reads 3 31 "ANNE2" ∷ [])) (refused (notice 54 3 35)) ∷ []
+
+-- In every case the definitions say what the paper says.
+pub cases : map computed table ≡ map (λ (c : Case). c .stated) table
+unfolding
+    bytes firstOf
+    linesFrom isEnd textOf endOf lengthTest endTest
+    isLeap monthDays daysIn isDate inQuarter isFilingYear isQuarterMonth isAfter
+    Codes.codesIn Codes.states Codes.provinces Codes.isCode Codes.isAmong Codes.regionOf
+    isPermitted capitalOf capitals isBlank isDigit isLetter isOfName columnTest everyColumn
+    numberFrom numberIn valueIn periodIn flagIn beginsWith69 mayBeFiled
+    allBlank isIndented isAsked readsAs hasPattern
+    classes classOf fieldsOfA fieldsOfE fieldsOfS fieldsOfT fieldsOfF
+    ruleList ruleOf fieldEdits kindOf rulesOfA rulesOfE rulesOfS rulesOfT rulesOfF
+    isAmong editsFrom firstOfFile recordsOnto
+cases = refl
