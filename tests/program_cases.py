@@ -10,6 +10,7 @@ the programs: `rt check acknowledge batch calls` builds them.
 """
 import os
 import random
+import socket
 import subprocess
 import sys
 import tempfile
@@ -24,8 +25,11 @@ FIXED_CASES, DRAWN_CASES = 20000, 4000
 # A file that breaks 61 has more than 100,000 lines, so there are few of them and they are piped.
 LONG_CASES = 40
 SCRIPT_CALLS = 6000
-# How many of the first cases of each seed go through the program `acknowledge` as well.
-ALONE = 40
+# How many of the first cases of each seed go through the program `acknowledge` as well, and how many long files.
+ALONE, LONG_ALONE = 40, 2
+
+# What a read of it brings.
+PIECES = (1, 6, 7, 8, 291, 292, 293, 1000, 60000)
 
 passed = 0
 failed = 0
@@ -115,13 +119,28 @@ def through_calls(seed):
         print(done.stdout.strip())
 
 
-def alone(seed, count):
-    """The first cases through the program itself."""
+def fed(case, draw):
+    """What the program answers when each of its reads brings one piece: a socket of packets gives a read no more than one."""
+    ours, its = socket.socketpair(socket.AF_UNIX, socket.SOCK_SEQPACKET)
+    running = subprocess.Popen(program("acknowledge"), stdin=its, stdout=subprocess.PIPE)
+    its.close()
+    at = 0
+    try:
+        while at < len(case):
+            at += ours.send(case[at:at + draw.choice(PIECES)])
+    except ConnectionError:
+        pass  # it has answered, and reads no more
+    ours.close()
+    return running.communicate()[0]
+
+
+def alone(seed, cases):
+    """Some cases through the program itself."""
+    draw = random.Random(seed)
     got, expected = [], []
-    for k in range(ALONE):
-        case = subprocess.run(reference("one", seed, count, k), stdout=subprocess.PIPE, stderr=subprocess.DEVNULL).stdout
+    for case in (subprocess.run(reference("one", seed, *case), stdout=subprocess.PIPE, stderr=subprocess.DEVNULL).stdout for case in cases):
         expected.append(subprocess.run(reference("ack"), input=case, stdout=subprocess.PIPE).stdout)
-        got.append(subprocess.run(program("acknowledge"), input=case, stdout=subprocess.PIPE).stdout)
+        got.append(fed(case, draw))
     compare("the program acknowledge, seed %s" % seed, got, expected)
 
 
@@ -135,8 +154,9 @@ def main(arguments):
         for seed, count in ((FIXED_SEED, FIXED_CASES), (drawn, DRAWN_CASES)):
             through_batch("cases", seed, count)
             through_calls(seed)
-            alone(seed, count)
+            alone(seed, [(count, k) for k in range(ALONE)])
         through_batch("long", FIXED_SEED, LONG_CASES)
+        alone(FIXED_SEED, [(LONG_CASES, k, "--long") for k in range(LONG_ALONE)])
     print("%d passed, %d failed" % (passed, failed))
     return 1 if failed else 0
 
