@@ -25,6 +25,8 @@ FIXED_CASES, DRAWN_CASES = 20000, 4000
 # A file that breaks 61 has more than 100,000 lines, so there are few of them and they are piped.
 LONG_CASES = 40
 SCRIPT_CALLS = 6000
+# Two files each.
+PAIRS = 3000
 # How many of the first cases of each seed go through the program `acknowledge` as well, and how many long files.
 ALONE, LONG_ALONE = 40, 2
 
@@ -80,29 +82,46 @@ def compare(what, got, expected):
     tell(what, len(expected), len(wrong))
 
 
-def made(kind, seed, count, folder, *flags):
-    """The reference writes inputs into a pipe that `batch` reads."""
+def made(arguments, folder):
+    """The answers of `batch` and those expected. The reference writes the inputs into a pipe that `batch` reads."""
     inputs, expected = os.path.join(folder, "inputs"), os.path.join(folder, "expected")
     os.mkfifo(inputs)
-    maker = subprocess.Popen(reference(kind, seed, count, inputs, expected, *flags), stdout=subprocess.PIPE, text=True)
+    words = [word for word in arguments if not str(word).startswith("--")]
+    flags = [word for word in arguments if str(word).startswith("--")]
+    maker = subprocess.Popen(reference(*words, inputs, expected, *flags), stdout=subprocess.PIPE, text=True)
     with open(inputs, "rb") as pipe:
         got = subprocess.run(program("batch"), stdin=pipe, stdout=subprocess.PIPE).stdout
         while pipe.read(1 << 20):
             pass
     table = maker.communicate()[0]
-    os.unlink(inputs)
     if maker.returncode != 0:
-        fail("the reference: %s %s %s" % (kind, seed, count))
+        fail("the reference: %s" % (arguments,))
     with open(expected, "rb") as told:
         return answers(got), answers(told.read()), table
 
 
-def through_batch(kind, seed, count, *flags):
+def through_batch(*arguments):
+    """Compares, and hands back the program's answers and the reference's table."""
     with tempfile.TemporaryDirectory() as folder:
-        got, expected, table = made(kind, seed, count, folder, *flags)
-    compare("%s of seed %s" % (kind, seed), got, expected)
-    if seed == FIXED_SEED:
-        print("\n".join(line[:15] for line in table.splitlines()[:-2]))
+        got, expected, table = made(arguments, folder)
+    compare("%s" % " ".join(map(str, arguments)), got, expected)
+    return got, table
+
+
+def numbers(table):
+    """How often each number is the answer, without the columns that say where."""
+    return "\n".join(line[:15] for line in table.splitlines() if line[:15].strip() and line[:15].replace("all", "").replace(" ", "").isdigit())
+
+
+def pairs(seed):
+    """Demand 3: two files that are alike but for the employees get the same answer; where one of its conditions is broken, another."""
+    got, table = through_batch("pairs", seed, PAIRS)
+    differ = sum(one != other for one, other in zip(got[0::2], got[1::2]))
+    tell("pairs of seed %s that are alike, answered the same" % seed, len(got) // 2, differ)
+    print(table[table.index("otherwise than meant"):].strip())
+    got, _ = through_batch("needed")
+    alike = sum(one == other for one, other in zip(got[0::2], got[1::2]))
+    tell("pairs that break one condition, answered otherwise", len(got) // 2, alike)
 
 
 def through_calls(seed):
@@ -141,7 +160,7 @@ def alone(seed, cases):
     for case in (subprocess.run(reference("one", seed, *case), stdout=subprocess.PIPE, stderr=subprocess.DEVNULL).stdout for case in cases):
         expected.append(subprocess.run(reference("ack"), input=case, stdout=subprocess.PIPE).stdout)
         got.append(fed(case, draw))
-    compare("the program acknowledge, seed %s" % seed, got, expected)
+    compare("the program acknowledge on %d cases of seed %s" % (len(cases), seed), got, expected)
 
 
 def main(arguments):
@@ -152,10 +171,12 @@ def main(arguments):
         drawn = int(arguments[1]) if arguments[:1] == ["--seed"] else random.SystemRandom().randrange(1 << 32)
         print("seeds: %d, and drawn: %d" % (FIXED_SEED, drawn))
         for seed, count in ((FIXED_SEED, FIXED_CASES), (drawn, DRAWN_CASES)):
-            through_batch("cases", seed, count)
+            table = through_batch("cases", seed, count)[1]
+            print(numbers(table) if seed == FIXED_SEED else "")
             through_calls(seed)
             alone(seed, [(count, k) for k in range(ALONE)])
-        through_batch("long", FIXED_SEED, LONG_CASES)
+        pairs(drawn)
+        print(numbers(through_batch("long", FIXED_SEED, LONG_CASES)[1]))
         alone(FIXED_SEED, [(LONG_CASES, k, "--long") for k in range(LONG_ALONE)])
     print("%d passed, %d failed" % (passed, failed))
     return 1 if failed else 0

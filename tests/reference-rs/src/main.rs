@@ -10,6 +10,12 @@
 //!   comes fewer than 20 times; 61 is left to the long files.
 //! - `reference long SEED COUNT INPUTS EXPECTED`: the same with long files alone. From 40 cases on it
 //!   fails if 61 comes fewer than 20 times.
+//! - `reference pairs SEED COUNT INPUTS EXPECTED [--small]`: the same with COUNT pairs of inputs, one
+//!   behind the other, that are alike but for the employees (`alike` has what that is), so that both
+//!   get one answer. From 3,000 pairs on it fails if fewer than a sixth of them are accepted, or if
+//!   fewer than 40 numbers of refusals come.
+//! - `reference needed INPUTS EXPECTED`: the same with pairs that lack one thing of being alike, and
+//!   so get two answers.
 //! - `reference scripts SEED COUNT SCRIPT TOLD`: writes a script of COUNT calls or a few more in the
 //!   language of the program `calls` (`command` has it), and what that program must print. Prints how
 //!   often each number is the answer, and fails if 71 or 72 comes fewer than 20 times.
@@ -21,6 +27,7 @@
 
 mod ack;
 mod agree;
+mod alike;
 mod big;
 mod bounds;
 mod breaks;
@@ -34,9 +41,12 @@ mod layout;
 mod lines;
 mod meaning;
 mod mutations;
+mod needed;
+mod pairs;
 mod pieces;
 mod program;
 mod rng;
+mod run;
 mod scripts;
 mod tables;
 mod tally;
@@ -45,7 +55,9 @@ mod tests;
 mod walk;
 
 use gen::{Case, Cases, Options};
+use pairs::{Facts, Pair};
 use rng::Rng;
+use run::Run;
 use scripts::Script;
 use std::io::{self, Read, Write};
 use std::process::ExitCode;
@@ -54,6 +66,8 @@ use tally::Tally;
 const USAGE: &str = "usage: reference ack
        reference cases SEED COUNT INPUTS EXPECTED [--small] [--all-bytes]
        reference long SEED COUNT INPUTS EXPECTED
+       reference pairs SEED COUNT INPUTS EXPECTED [--small]
+       reference needed INPUTS EXPECTED
        reference scripts SEED COUNT SCRIPT TOLD
        reference calls
        reference one SEED COUNT K [--small] [--all-bytes] [--long]
@@ -77,12 +91,17 @@ fn run() -> Result<(), String> {
     match words[..] {
         ["ack"] => acknowledge().map_err(|e| e.to_string()),
         ["cases", seed, count, inputs, expected] => {
-            write_cases(cases(seed, count, options)?, inputs, expected)
+            write_cases(cases(seed, count, options)?, Run::create(inputs, expected)?)
         }
         ["long", seed, count, inputs, expected] => {
             options.long = true;
-            write_cases(cases(seed, count, options)?, inputs, expected)
+            write_cases(cases(seed, count, options)?, Run::create(inputs, expected)?)
         }
+        ["pairs", seed, count, inputs, expected] => {
+            let pairs = pairs::make(number(seed)?, number(count)?, options);
+            write_pairs(pairs, Run::create(inputs, expected)?)
+        }
+        ["needed", inputs, expected] => write_needed(Run::create(inputs, expected)?),
         ["one", seed, count, k] => {
             let mut cases = cases(seed, count, options)?;
             let case = cases.nth(number(k)? as usize).ok_or("no such case")?;
@@ -153,22 +172,32 @@ fn stats(cases: Cases) -> Result<(), String> {
     tally.finish(promised)
 }
 
-fn write_cases(cases: Cases, inputs: &str, expected: &str) -> Result<(), String> {
-    let mut tally = Tally::default();
+fn write_cases(cases: Cases, mut run: Run) -> Result<(), String> {
     let promised = cases.promised();
-    let mut inputs = framing::create(inputs)?;
-    let mut expected = framing::create(expected)?;
     for case in cases {
-        let outcome = ack::outcome(&case.input);
-        tally.count(&case, &outcome);
-        framing::write_input(&mut inputs, &case.input, case.piece)
-            .and_then(|()| framing::write_expected(&mut expected, &ack::frames(&outcome)))
-            .map_err(|e| e.to_string())?;
+        run.add(&case)?;
     }
-    for file in [&mut inputs, &mut expected] {
-        file.flush().map_err(|e| e.to_string())?;
+    run.finish(promised)
+}
+
+fn write_pairs(pairs: impl Iterator<Item = Pair>, mut run: Run) -> Result<(), String> {
+    let mut facts = Facts::default();
+    for (k, pair) in pairs.enumerate() {
+        let found = [run.add(&pair.one)?, run.add(&pair.other)?];
+        pair.check(&found)
+            .map_err(|what| format!("pair {k}: {what}"))?;
+        facts.count(&pair, &found[0]);
     }
-    tally.finish(promised)
+    run.finish(Vec::new())?;
+    facts.finish()
+}
+
+fn write_needed(mut run: Run) -> Result<(), String> {
+    for pair in needed::all() {
+        let found = [run.add(&pair.one)?, run.add(&pair.other)?];
+        pair.check(&found)?;
+    }
+    run.finish(Vec::new())
 }
 
 fn write_script(script: Script, text: &str, told: &str) -> Result<(), String> {
