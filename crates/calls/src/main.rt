@@ -8,11 +8,12 @@
 //     E  the end: ids lent 2-3, entries lent 4-5
 //     W  a whole file: as O; bytes
 //     S  another state; T another id and another entry: `script` has their columns
+//     R  a record written: T or F in 2, the length of the slice, at most 300, in 3-5. Full stops stand in the slice before
 //     X  a line, lent a list of 65,540 entries, each 7, 8, 9: the state has 65,535 employers, or one or two more, by the digit in 2; bytes. What it
 //        leaves is not kept
 //
 // The four calls and X print a line: number, line, column and bytes taken; the state; the ids; the entries. Zeros at the end of a table are left
-// out. X prints no ids, and the entries from 65,534 on.
+// out. X prints no ids, and the entries from 65,534 on. R prints number, line and column, and the slice.
 //
 // The program's memory is fixed, whatever the script's length: it holds 65,536 bytes of it at a time. A command that has more, its # included, ends the
 // program.
@@ -22,6 +23,7 @@ mod script;
 use calendar::Quarter;
 use state::State;
 use step::Answer;
+use write::Wrote;
 ghost use Prim.Native.Nat.{_≤_};
 ghost use mathlib.Core.Path.{_≡_};
 ghost use lib.ListN.{length};
@@ -114,6 +116,28 @@ fn line_beyond(st: State, s: &[u8]) {
     print::line_end();
 }
 
+fn write_into(letter: u8, st: State, out: &mut [u8]) -> Wrote {
+    match letter {
+        b'T' => write::write_t(st, out),
+        _ => write::write_f(st, out),
+    }
+}
+
+fn record_written(letter: u8, st: State, out: &mut [u8]) {
+    let wrote = write_into(letter, st, out);
+    print::wrote(wrote);
+    io::write_all(1, out);
+    print::line_end();
+}
+
+// A slice of as many bytes as the columns say, lent to the writing.
+fn lent_record(st: State, s: &[u8]) {
+    let mut slice = [b'.'; 300];
+    let from: usize = 0;
+    let n = at_most(number::value_in(s, 3, 5), 300);
+    record_written(chars::char_at(s, 1), st, &mut slice[from..n]);
+}
+
 fn command(st: State, s: &[u8], ids: &mut [u32], list: &mut [[u64; 3]]) -> State {
     let letter = chars::char_at(s, 0);
     match letter {
@@ -121,6 +145,10 @@ fn command(st: State, s: &[u8], ids: &mut [u32], list: &mut [[u64; 3]]) -> State
         b'T' => {
             script::alter_ids(s, ids);
             script::alter_list(s, list);
+            st
+        }
+        b'R' => {
+            lent_record(st, s);
             st
         }
         b'X' => {

@@ -8,6 +8,7 @@ use state::Stage;
 use state::State;
 use step::Answer;
 use step::Reply;
+use write::Wrote;
 ghost use Prim.Native.Nat.{_≤_};
 ghost use lib.ListN.{length};
 
@@ -114,6 +115,14 @@ pub fn answer(a: Answer) {
     put_reply(reply);
     io::write_all(1, b"|");
     put_state(st);
+}
+
+pub fn wrote(w: Wrote) {
+    match w {
+        Wrote::Record => put_zeros(),
+        Wrote::Refused(refusal) => put_refusal(refusal),
+    }
+    io::write_all(1, b"|");
 }
 
 fn comma(i: usize) {

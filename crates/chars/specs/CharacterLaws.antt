@@ -76,3 +76,10 @@ module _ (c letter : ℕ) (low : 65 ≤ letter) (high : letter ≤ 90) where
   pub capital-is : eqb (capitalOf c) letter ≡ eqb c letter || eqb c (letter + 32)
   unfolding capitalOf
   capital-is = by-letter (leb 97 c && leb c 122) (eqb c letter) (eqb c (letter + 32)) refl refl refl
+
+-- Characters before the small letters are capitals already.
+pub capitals-already : (line : List ℕ) → ((k : ℕ) → k < length line → getD line k 0 < 97) → capitals line ≡ line
+unfolding capitals capitalOf
+capitals-already [] all = refl
+capitals-already (c ∷ line) all =
+    rw (lt-leb 97 c (all 0 (omega arith))) (ap (λ (l : List ℕ). c ∷ l) (capitals-already line (λ k h. all (suc k) (omega arith))))

@@ -1,15 +1,17 @@
--- The laws of columns, as a loop over a field's columns uses them.
-use Prim.Native.Nat.{ℕ, _+_, _-_}
+-- The laws of columns, as a loop over a field's columns uses them, and what the columns of a field hold.
+use Prim.Native.Nat.{ℕ, _+_, _-_, _<_, _≤_}
 use mathlib.Core.Path.{_≡_, refl}
 use mathlib.Core.Bool.{Bool, true, false}
 use mathlib.Core.List.{List}
 use native.Mathlib.Omega.{arith}
 use lib.ListN.{getD}
+use borrow.Author.Tests.{eqb-true, le-leb}
 use Rattle.laws.specs.Choice.{if_then_else_}
 use Rattle.laws.specs.Finding.{fine, broken, firstOf}
-use Rattle.laws.specs.First.{finds-nothing}
+use Rattle.laws.specs.First.{none-is-broken, finds-nothing}
 use Rattle.laws.specs.Numbered.{Between, Within, fine-within, broken-within, choice-within, first-within}
 use Rattle.chars.specs.Characters.{isPermitted, isBlank, isDigit, isOfName}
+use Rattle.chars.specs.CharacterLaws.{digit-range}
 use Rattle.chars.specs.Columns.{widthOf, columnTest, allowedTest, everyColumn, unless}
 use Rattle.chars.specs.declared.columns.Allowed.{Allowed}
 use Rattle.chars.specs.declared.columns.Allowed.the-variants.{Anything, Permitted, Blanks, Digits, OfNames}
@@ -60,3 +62,32 @@ module _ (least most : ℕ) where
     pub every-within : (allowed : Allowed) (line : List ℕ) (first last : ℕ) → Within least most (everyColumn allowed line first last)
     unfolding everyColumn
     every-within allowed line first last = first-within least most (allowedTest allowed line) (allowed-within allowed line) (widthOf first last) (first - 1)
+
+-- ---- what the columns hold where none is broken
+module _ (allowed : Allowed) (line : List ℕ) (first last : ℕ) where
+  pub fine-columns : everyColumn allowed line first last ≡ fine → (k : ℕ) → first - 1 ≤ k → k < last → allowedTest allowed line k ≡ fine
+  unfolding everyColumn
+  fine-columns e k low high =
+      let place : first - 1 + (k - (first - 1)) ≡ k = omega arith in
+      rw place at (none-is-broken (allowedTest allowed line) (widthOf first last) (first - 1) e (k - (first - 1)) (omega arith))
+
+  pub columns-fine : ((k : ℕ) → first - 1 ≤ k → k < last → allowedTest allowed line k ≡ fine) → everyColumn allowed line first last ≡ fine
+  unfolding everyColumn
+  columns-fine all = finds-nothing (allowedTest allowed line) (widthOf first last) (first - 1) (λ k h. all (first - 1 + k) (omega arith) (omega arith))
+
+module _ (line : List ℕ) (at : ℕ) where
+  pub blank-column : allowedTest Blanks line at ≡ fine → getD line at 0 ≡ 0x20
+  unfolding columnTest isBlank
+  blank-column e = eqb-true (getD line at 0) 0x20 (unless-fine _ (at + 1) 31 e)
+
+  pub column-blank : getD line at 0 ≡ 0x20 → allowedTest Blanks line at ≡ fine
+  unfolding columnTest isBlank
+  column-blank e = rw e
+
+  pub column-permitted : 0x20 ≤ getD line at 0 → getD line at 0 ≤ 0x7e → allowedTest Permitted line at ≡ fine
+  unfolding columnTest isPermitted
+  column-permitted low high = rw (le-leb 0x20 (getD line at 0) low, le-leb (getD line at 0) 0x7e high)
+
+  pub digit-column : allowedTest Digits line at ≡ fine → (48 ≤ getD line at 0) × (getD line at 0 ≤ 57)
+  unfolding columnTest
+  digit-column e = digit-range (getD line at 0) (unless-fine _ (at + 1) 30 e)

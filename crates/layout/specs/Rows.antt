@@ -131,3 +131,16 @@ pub rows-of-S : fieldsOfS
     ∷ row BlankSpace 52 63 ∷ row Numeric 64 77 ∷ row BlankSpace 78 142 ∷ row EntityCode 143 146 ∷ row Numeric 147 155 ∷ row BlankSpace 156 290 ∷ []
 unfolding fieldsOfS
 rows-of-S = refl
+
+-- ---- the tables of T and F, row by row
+pub rows-of-T : fieldsOfT
+    ≡ row RecordLetter 1 1 ∷ row Numeric 2 8 ∷ row EntityCode 9 12 ∷ row Numeric 13 21 ∷ row BlankSpace 22 26 ∷
+    row Numeric 27 40 ∷ row BlankSpace 41 290 ∷ []
+unfolding fieldsOfT
+rows-of-T = refl
+
+pub rows-of-F : fieldsOfF
+    ≡ row RecordLetter 1 1 ∷ row Numeric 2 11 ∷ row Numeric 12 21 ∷ row EntityCode 22 25 ∷ row BlankSpace 26 40 ∷
+    row Numeric 41 55 ∷ row BlankSpace 56 290 ∷ []
+unfolding fieldsOfF
+rows-of-F = refl

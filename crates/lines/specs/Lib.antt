@@ -5,3 +5,4 @@ pub mod Outcomes
 pub mod Window
 pub mod Once
 pub mod Changed
+pub mod Ends

@@ -1,5 +1,6 @@
 pub mod Numbers
 pub mod NumberLaws
+pub mod ColumnLaws
 pub mod Rules
 pub mod RuleLaws
 pub mod Once

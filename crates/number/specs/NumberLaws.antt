@@ -3,6 +3,7 @@ use Prim.Native.Nat.{ℕ, zero, suc, _+_, _-_, _*_, _/_, _%_, _^_, _<_, _≤_}
 use mathlib.Core.Path.{_≡_, refl, sym, ap, _∙_}
 use mathlib.Core.Bool.{Bool, true, false, _||_}
 use mathlib.Core.List.{List}
+use mathlib.Core.Logic.{_⊎_, inl, inr}
 use native.Mathlib.Nat.{add-zero, pow-suc, pow-zero, pow-le-pow-right, one-le-pow}
 use native.Mathlib.Omega.{arith}
 use lib.Dec.{eqb, ltb, lit<}
@@ -69,7 +70,7 @@ no-value : (column number v : ℕ) → refused column number ≡ value v → ⊥
 no-value column number v e = let z : _≡_ {A = ℕ} 0 1 = cc in omega arith
 
 -- where a choice reads as a value, it was not the refusal
-chose-first : (t : Bool) (x : Reading) (column number v : ℕ) → (if t then x else refused column number) ≡ value v → (t ≡ true) × (x ≡ value v)
+pub chose-first : (t : Bool) (x : Reading) (column number v : ℕ) → (if t then x else refused column number) ≡ value v → (t ≡ true) × (x ≡ value v)
 chose-first true x column number v e = (refl, e)
 chose-first false x column number v e = absurd (no-value column number v e)
 
@@ -142,13 +143,16 @@ module _ (line : List ℕ) (from at v : ℕ) where
   put-more h = let e : at - from ≡ suc (at - 1 - from) = omega arith in rw e
 
 -- ---- reading back
--- Behind the places that are written the line is as it was.
-put-untouched : (n : ℕ) (line : List ℕ) (end v j : ℕ) → n ≤ end → end ≤ j → getD (putDigits line end n v) j 0 ≡ getD line j 0
+-- Before and behind the places that are written the line is as it was.
+pub put-untouched : (n : ℕ) (line : List ℕ) (end v j : ℕ) → n ≤ end → (j + n < end) ⊎ (end ≤ j) → getD (putDigits line end n v) j 0 ≡ getD line j 0
 unfolding putDigits
 put-untouched zero line end v j l h = refl
 put-untouched (suc n) line end v j l h =
-    put-untouched n (set line (end - 1) (48 + v % 10)) (end - 1) (v / 10) j (omega arith) (omega arith)
-    ∙ getD-set-other line (end - 1) j (48 + v % 10) 0 (λ q. omega arith)
+    let line′ = set line (end - 1) (48 + v % 10) in
+    elim h [
+      | inl before ↦ put-untouched n line′ (end - 1) (v / 10) j (omega arith) (inl (omega arith)) ∙ getD-set-other line (end - 1) j (48 + v % 10) 0 (λ q. omega arith)
+      | inr behind ↦ put-untouched n line′ (end - 1) (v / 10) j (omega arith) (inr (omega arith)) ∙ getD-set-other line (end - 1) j (48 + v % 10) 0 (λ q. omega arith)
+    ]
 
 abbrev oneMore : List ℕ → ℕ → Reading → Reading
 oneMore line at (value v) = if isDigit (getD line at 0) then value (v * 10 + (getD line at 0 - 48)) else refused (at + 1) 30
@@ -179,7 +183,7 @@ from-read-back (suc n) line from v h l =
     let front : numberFrom written 0 from n ≡ value (v / 10) =
     from-read-back n line′ from (v / 10) (rw length-set (omega arith)) (omega (arith, rw pow-suc at l)) in
     let last : getD written (from + n) 0 ≡ 48 + v % 10 =
-    put-untouched n line′ (from + n) (v / 10) (from + n) (omega arith) (omega arith)
+    put-untouched n line′ (from + n) (v / 10) (from + n) (omega arith) (inr (omega arith))
     ∙ getD-set-same line (from + n) (48 + v % 10) 0 (omega arith) in
     let val : v / 10 * 10 + (48 + v % 10 - 48) ≡ v = omega arith in
     rw e (number-last n written 0 from ∙ rw (front, last, digit-is (v % 10) (omega arith), val))

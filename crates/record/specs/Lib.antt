@@ -14,3 +14,4 @@ pub mod Letters
 pub mod Alike
 pub mod EmployeeLaws
 pub mod Blot
+pub mod Sums

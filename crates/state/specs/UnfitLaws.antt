@@ -117,6 +117,12 @@ module _ (room : Room) (walk : Walk) where
   fit-open e h =
       open-sound _ _ _ _ (open-part (isOpen (walk .standing)) (openUnfit (room .ids) (walk .used) (walk .all) (walk .open)) (fit-parts e .1) h)
 
+  pub fit-standing : unfit room walk ≡ false → standing ≡ false
+  unfolding unfit
+  fit-standing e =
+      let file = fileUnfit (entriesUsed room) (walk .all) (walk .lines) in
+      neither (file || under) standing e .1
+
   pub sound-fit : FileSound (entriesUsed room) (walk .all) (walk .lines)
       → (isOpen (walk .standing) ≡ true → OpenSound (room .ids) (walk .used) (walk .all) (walk .open))
       → standingUnfit (walk .standing) (walk .held) (walk .filed) ≡ false → unfit room walk ≡ false
@@ -162,3 +168,17 @@ refused-fit room says e =
     (record { employers = omega arith; many = omega arith; sum = omega arith; lines-read = omega arith })
     (λ o. absurd (false≢true o))
     (rw e)
+
+pub left-not-0 : (number : ℕ) → isLeft number ≡ true → number ≡ 0 → ⊥
+unfolding isLeft
+left-not-0 number e same = false≢true (ap isLeft (sym same) ∙ e)
+
+-- "A table the call isn't lent isn't compared": what is fit for a call that is lent tables is fit for one that is lent none.
+pub fit-without : (room : Room) (walk : Walk) → unfit room walk ≡ false → unfit (record { ids = walk .used; list = walk .all .employers }) walk ≡ false
+fit-without room walk e =
+    let file = fit-file room walk e in
+    sound-fit (record { ids = walk .used; list = walk .all .employers }) walk
+    (record { employers = omega arith; many = file .many; sum = file .sum; lines-read = file .lines-read })
+    (λ o. let this = fit-open room walk e o in
+    record { ids-fit = omega arith; under = this .under; under-sum = this .under-sum; some = this .some; fein = this .fein })
+    (fit-standing room walk e)

@@ -1,3 +1,5 @@
 pub mod Text
 pub mod TextLaws
 pub mod Address
+pub mod Put
+pub mod PutLaws

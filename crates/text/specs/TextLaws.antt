@@ -1,14 +1,16 @@
 -- The laws of text, of patterns and of addresses.
-use Prim.Native.Nat.{ℕ, _+_, _-_, _<_, _≤_}
-use mathlib.Core.Path.{_≡_, refl}
+use Prim.Native.Nat.{ℕ, _+_, _-_, _<_, _≤_, zero, suc}
+use mathlib.Core.Path.{_≡_, refl, sym, _∙_}
 use mathlib.Core.Bool.{Bool, true, false, not, _||_}
 use mathlib.Core.List.{List, [], _∷_}
-use native.Mathlib.Nat.{add-zero}
+use native.Mathlib.Nat.{add-zero, not-suc-le-zero}
 use native.Mathlib.Numerals.{add-one}
 use native.Mathlib.Omega.{arith}
+use lib.Dec.{eqb}
 use lib.ListN.{length, getD, drop, drop-of-length-le}
 use lib.Seq.{drop-cons, drop-drop, getD-drop}
-use Rattle.laws.specs.Choice.{if_then_else_}
+use borrow.Author.Tests.{eqb-true, eq-eqb, ne-eqb}
+use Rattle.laws.specs.Choice.{if_then_else_, both-hold}
 use Rattle.laws.specs.Finding.{fine, broken, orElse}
 use Rattle.laws.specs.Numbered.{Between, Within, fine-within, broken-within}
 use Rattle.codes.specs.declared.Region.{Region}
@@ -50,6 +52,44 @@ pub pattern-alike : (pattern u v : List ℕ) (first : ℕ) → Agree u v first (
 unfolding hasPattern
 pattern-alike pattern u v first agree =
     reads-alike pattern (drop (first - 1) u) (drop (first - 1) v) (agree-from u v first (length pattern) agree)
+
+-- ---- a pattern whose characters stand for themselves
+-- None of them is a small letter, so none is d or l.
+abbrev pub Fixed : List ℕ → Type 0
+Fixed pattern = (k : ℕ) → k < length pattern → getD pattern k 0 < 97
+
+asks-itself : (symbol c : ℕ) → symbol < 97 → isAsked symbol c ≡ eqb c symbol
+unfolding isAsked
+asks-itself symbol c h = rw (ne-eqb symbol 100 (λ e. omega arith), ne-eqb symbol 108 (λ e. omega arith))
+
+reads-fixed : (pattern text : List ℕ) → Fixed pattern → readsAs text pattern ≡ true → (k : ℕ) → k < length pattern → getD text k 0 ≡ getD pattern k 0
+unfolding readsAs
+reads-fixed [] text fixed e k h = absurd (not-suc-le-zero h)
+reads-fixed (symbol ∷ symbols) text fixed e zero h =
+    eqb-true (getD text 0 0) symbol (sym (asks-itself symbol (getD text 0 0) (fixed 0 (omega arith))) ∙ both-hold (isAsked symbol (getD text 0 0)) (readsAs (drop 1 text) symbols) e .0)
+reads-fixed (symbol ∷ symbols) text fixed e (suc k) h =
+    let behind = both-hold (isAsked symbol (getD text 0 0)) (readsAs (drop 1 text) symbols) e .1 in
+    let rest = reads-fixed symbols (drop 1 text) (λ j l. fixed (suc j) (omega arith)) behind k (omega arith) in
+    let place : 1 + k ≡ suc k = omega arith in
+    rw (← place, ← getD-drop 1 text k 0) rest
+
+fixed-reads : (pattern text : List ℕ) → Fixed pattern → ((k : ℕ) → k < length pattern → getD text k 0 ≡ getD pattern k 0) → readsAs text pattern ≡ true
+unfolding readsAs
+fixed-reads [] text fixed same = refl
+fixed-reads (symbol ∷ symbols) text fixed same =
+    rw (asks-itself symbol (getD text 0 0) (fixed 0 (omega arith)), eq-eqb (getD text 0 0) symbol (same 0 (omega arith)))
+    (fixed-reads symbols (drop 1 text) (λ j l. fixed (suc j) (omega arith))
+    (λ k h. let place : 1 + k ≡ suc k = omega arith in rw (getD-drop 1 text k 0, place) (same (suc k) (omega arith))))
+
+-- The field reads as such a pattern exactly if its columns hold the pattern's characters.
+module _ (line : List ℕ) (first : ℕ) (pattern : List ℕ) (fixed : Fixed pattern) where
+  pub pattern-columns : hasPattern line first pattern ≡ true → (k : ℕ) → k < length pattern → getD line (first - 1 + k) 0 ≡ getD pattern k 0
+  unfolding hasPattern
+  pattern-columns e k h = sym (getD-drop (first - 1) line k 0) ∙ reads-fixed pattern (drop (first - 1) line) fixed e k h
+
+  pub columns-pattern : ((k : ℕ) → k < length pattern → getD line (first - 1 + k) 0 ≡ getD pattern k 0) → hasPattern line first pattern ≡ true
+  unfolding hasPattern
+  columns-pattern same = fixed-reads pattern (drop (first - 1) line) fixed (λ k h. getD-drop (first - 1) line k 0 ∙ same k h)
 
 -- ---- required and optional text, edit by edit
 required-tests : (blank indented : Bool) (first : ℕ)

@@ -1,5 +1,6 @@
 // Fields of text.
 pub mod address;
+pub mod put;
 
 use chars::columns;
 use chars::columns::Allowed;

@@ -15,6 +15,7 @@
 //!   FEIN 16-25, count 26-35 and cents 36-54; a place behind a table's end alters nothing
 //! - `X`, a line, lent a list of 65,540 entries: the state has 65,535 employers, or one or two more,
 //!   by the digit in 2; bytes
+//! - `R`, a record written: `T` or `F` in 2, the length of the slice lent 3-5, at most 300
 //!
 //! Here a command is written by the widths of its numbers and read by their columns, so that each
 //! checks the other.
@@ -23,6 +24,7 @@ use crate::calendar::Quarter;
 use crate::edits::{Phase, Refusal};
 use crate::meaning::{Entry, Room};
 use crate::walk::{OpenE, Standing, State};
+use crate::write::Written;
 
 #[derive(Clone, Debug, PartialEq, Eq)]
 pub enum Command {
@@ -48,7 +50,14 @@ pub enum Command {
         more: u64,
         bytes: Vec<u8>,
     },
+    Write {
+        record: Written,
+        length: usize,
+    },
 }
+
+/// The longest slice that the program can lend to a writing call.
+pub const LONGEST_SLICE: usize = 300;
 
 /// Another id and another entry.
 #[derive(Clone, Copy, Debug, PartialEq, Eq)]
@@ -145,6 +154,12 @@ impl Text {
             .number(altered.entry.count, 10)
             .number(altered.entry.cents, 19);
     }
+
+    fn writing(&mut self, record: Written, length: usize) {
+        assert!(length <= LONGEST_SLICE, "{length} bytes are too many");
+        self.0.push(record.letter());
+        self.number(length as u64, 3);
+    }
 }
 
 impl Command {
@@ -157,6 +172,7 @@ impl Command {
             Command::State(_) => b'S',
             Command::Tables(_) => b'T',
             Command::Beyond { .. } => b'X',
+            Command::Write { .. } => b'R',
         }
     }
 
@@ -171,6 +187,7 @@ impl Command {
             Command::State(state) => text.state(state),
             Command::Tables(altered) => text.alteration(altered),
             Command::Beyond { more, bytes } => text.number(*more, 1).bytes(bytes),
+            Command::Write { record, length } => text.writing(*record, *length),
         }
         text.0
     }
@@ -201,6 +218,7 @@ impl Command {
                 more: columns.number(2, 2)?,
                 bytes: columns.bytes(3)?,
             },
+            b'R' => columns.writing()?,
             _ => return None,
         })
     }
@@ -279,6 +297,13 @@ impl Columns<'_> {
             },
         })
     }
+
+    fn writing(&self) -> Option<Command> {
+        let letter = self.0.get(1)?;
+        let record = Written::BOTH.into_iter().find(|r| r.letter() == *letter)?;
+        let length = self.number(3, 5)? as usize;
+        (length <= LONGEST_SLICE).then_some(Command::Write { record, length })
+    }
 }
 
 #[cfg(test)]
@@ -329,6 +354,8 @@ mod tests {
             (Command::End { lent: LENT }, "E0403"),
             (Command::Beyond { more: 2, bytes: bytes.clone() }, "X2|A\n"),
             (Command::Line { lent: LENT, bytes: Vec::new() }, "L0403|"),
+            (Command::Write { record: Written::T, length: 290 }, "RT290"),
+            (Command::Write { record: Written::F, length: 1 }, "RF001"),
             (Command::Whole { held, lent: LENT, bytes }, "W02026060403|A\n"),
             (
                 Command::Tables(altered),
@@ -358,5 +385,8 @@ mod tests {
         assert_eq!(Command::read(b""), None);
         assert_eq!(Command::read(b"Q0403"), None);
         assert_eq!(Command::read(b"E040"), None);
+        assert_eq!(Command::read(b"RS290"), None);
+        assert_eq!(Command::read(b"RT301"), None);
+        assert_eq!(Command::read(b"RT29"), None);
     }
 }

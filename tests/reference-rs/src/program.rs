@@ -1,6 +1,7 @@
 //! What the program `calls` does with a script: it keeps a state, an id table of 40 numbers and an
 //! employer list of 12 entries from command to command, and prints each answer with all that the
-//! call leaves.
+//! call leaves. A writing call leaves state and tables as they are, so its answer is printed with
+//! the slice alone.
 
 use crate::calendar::Quarter;
 use crate::command::{refusal_held, standing_number, Alteration, Command};
@@ -8,6 +9,7 @@ use crate::edits::Refusal;
 use crate::meaning::{Entry, Room};
 use crate::tables::Tables;
 use crate::walk::{self, Answer, LineAnswer, State};
+use crate::write::Written;
 
 /// The tables that it keeps.
 pub const KEPT: Room = Room {
@@ -27,6 +29,9 @@ const LONG_LIST_TOLD_FROM: usize = 65_534;
 
 /// The state of `X` has so many employers, or one or two more.
 pub const MANY_EMPLOYERS: u64 = 65_535;
+
+/// What stands in each byte of the slice that `R` lends.
+const UNWRITTEN: u8 = b'.';
 
 pub struct Program {
     pub state: State,
@@ -48,7 +53,7 @@ impl Program {
         }
     }
 
-    /// Does what a command says; the calls and `X` print a line.
+    /// Does what a command says; the calls, `X` and `R` print a line.
     pub fn run(&mut self, command: &Command) -> Option<Told> {
         match command {
             Command::Open { held, lent } => {
@@ -74,6 +79,7 @@ impl Program {
                 Some(self.told(no_line(answer)))
             }
             Command::Beyond { more, bytes } => Some(self.beyond(*more, bytes)),
+            Command::Write { record, length } => Some(self.write(*record, *length)),
             Command::State(state) => {
                 self.state = *state;
                 None
@@ -104,6 +110,12 @@ impl Program {
         told(answer, &state, format!("|{entries}"))
     }
 
+    fn write(&self, record: Written, length: usize) -> Told {
+        let mut slice = vec![UNWRITTEN; length];
+        let answer = record.write(&self.state, &mut slice);
+        told_of_slice(answer, &slice)
+    }
+
     fn alter(&mut self, altered: &Alteration) {
         if let Some(id) = self.tables.ids.get_mut(altered.id_at) {
             *id = altered.id;
@@ -132,6 +144,16 @@ fn told(answer: LineAnswer, state: &State, tables: String) -> Told {
     Told {
         number: refusal.number,
         line: format!("{reply}|{state}{tables}\n").into_bytes(),
+    }
+}
+
+/// Number, line and column; then the slice, byte for byte.
+fn told_of_slice(answer: Answer, slice: &[u8]) -> Told {
+    let refusal = answer.unwrap_or(Refusal::new(0, 0, 0));
+    let reply = printed(&[refusal.number.into(), refusal.line, refusal.column]);
+    Told {
+        number: refusal.number,
+        line: [reply.as_bytes(), b"|", slice, b"\n"].concat(),
     }
 }
 
@@ -201,7 +223,7 @@ mod tests {
     use super::*;
     use crate::draft::*;
     use crate::edits::Phase;
-    use crate::walk::Standing;
+    use crate::walk::{OpenE, Standing};
 
     const QUARTER: Quarter = Quarter::new(2026, 3);
     const FEIN: u64 = 12_345_678;
@@ -259,6 +281,59 @@ mod tests {
             "71 0 0 0 |5 0 0 0 6 2026 6 2026 3 0 0 0 0 2 1 123500 0 ||12345678:2:123500",
             // The list is lent too short for the one employer.
             "72 0 0 0 |5 0 0 0 6 2026 6 2026 3 0 0 0 0 2 1 123500 0 ||12345678:2:123500",
+        ];
+        assert_eq!(printed, wanted);
+    }
+
+    /// The open E of the paper's example, with so many S records and cents.
+    fn example_of(phase: Phase, s: u64, cents: u64) -> Vec<u8> {
+        let state = State {
+            standing: Standing::Among(phase),
+            quarter_of_a: QUARTER,
+            lines_read: 5,
+            employers: 1,
+            s,
+            cents,
+            open: OpenE {
+                fein: FEIN,
+                says_s_follow: true,
+                s,
+                cents,
+                ids_in_use: 2,
+            },
+            ..State::opened(QUARTER)
+        };
+        Command::State(state).text()
+    }
+
+    #[test]
+    fn records_written() {
+        let printed = printed_for(&[
+            command("RT290"),
+            example_of(Phase::EOpen, 0, 0),
+            command("RT290"),
+            command("RF005"),
+            command("RF290"),
+            example_of(Phase::EOpen, 2, 123_500),
+            command("RT290"),
+            example_of(Phase::AfterT, 2, 123_500),
+            command("RF290"),
+            command("RF000"),
+            // The list is lent too short, so that all is told as it stayed.
+            command("E0000"),
+        ]);
+        let stops = ".".repeat(290);
+        let t = "T0000002PFML012345678     00000000123500";
+        let f = "F00000000020000000001PFML               000000000123500";
+        let wanted = [
+            format!("72 0 0 |{stops}"),
+            format!("81 0 0 |{stops}"),
+            "83 0 0 |.....".to_string(),
+            format!("80 0 0 |{stops}"),
+            format!("0 0 0 |{t}{}", " ".repeat(250)),
+            format!("0 0 0 |{f}{}", " ".repeat(235)),
+            "83 0 0 |".to_string(),
+            "72 0 0 0 |3 0 0 0 5 2026 3 2026 3 12345678 1 2 123500 2 1 123500 2 ||".to_string(),
         ];
         assert_eq!(printed, wanted);
     }

@@ -7,31 +7,35 @@ mod afterwards;
 mod broken;
 mod calls;
 mod chance;
+mod handed_on;
 mod lengths;
 mod moments;
 mod near;
 mod records;
 mod totals;
 mod unfit;
+mod writing;
 
 use crate::calendar::Quarter;
 use crate::command::{Alteration, Command};
+use crate::layout::LENGTH;
 use crate::meaning::Room;
 use crate::program::{Program, KEPT};
 use crate::rng::Rng;
 use crate::tables::Tables;
 use crate::tally::Numbers;
 use crate::walk::State;
+use crate::write::Written;
 use moments::Moment;
 
 /// The room that the program has for a script.
 pub const LONGEST: usize = 2_000_000;
 
 /// The numbers that no file gets: of them each script has enough.
-pub const PROMISED: [u8; 2] = [71, 72];
+pub const PROMISED: [u8; 6] = [71, 72, 80, 81, 82, 83];
 
 /// While there are fixed scenes left, so many of them come to each one by chance.
-const FIXED_TO_CHANCE: usize = 3;
+const FIXED_TO_CHANCE: usize = 4;
 
 type Scene = Box<dyn Fn(&mut Rng, &mut Script)>;
 
@@ -40,6 +44,10 @@ pub struct Script {
     pub text: Vec<u8>,
     pub told: Vec<u8>,
     pub numbers: Numbers,
+    /// The number of the last answer.
+    answered: u8,
+    /// Calls so far. Writing calls change nothing and are short: they come on top.
+    calls: u64,
     /// How many fixed scenes had no room.
     pub fixed_scenes_left: usize,
     program: Program,
@@ -47,16 +55,17 @@ pub struct Script {
     lent: Room,
 }
 
-/// A script of so many calls or a few more.
+/// A script of so many calls or a few more, and writing calls among them.
 pub fn make(seed: u64, calls: u64) -> Script {
     let mut rng = Rng::of(seed, 70, 0);
     let mut script = Script::new();
     // The program starts with a quarter that none allows.
     script.end();
     script.line(b"A\n");
+    script.write(Written::T, LENGTH);
     let mut fixed = fixed_scenes();
     rng.shuffle(&mut fixed);
-    while script.numbers.all() < calls {
+    while script.calls < calls {
         for _ in 0..FIXED_TO_CHANCE {
             if let Some(scene) = fixed.pop() {
                 scene(&mut rng, &mut script);
@@ -75,6 +84,8 @@ fn fixed_scenes() -> Vec<Scene> {
     afterwards::add(&mut scenes);
     totals::add(&mut scenes);
     broken::add(&mut scenes);
+    writing::add(&mut scenes);
+    handed_on::add(&mut scenes);
     scenes
 }
 
@@ -90,6 +101,8 @@ impl Script {
             text: Vec::new(),
             told: Vec::new(),
             numbers: Numbers::default(),
+            answered: 0,
+            calls: 0,
             fixed_scenes_left: 0,
             program: Program::new(),
             lent: KEPT,
@@ -105,6 +118,8 @@ impl Script {
         self.text.push(b'#');
         if let Some(told) = self.program.run(&read) {
             self.numbers.count(told.number);
+            self.answered = told.number;
+            self.calls += u64::from(!matches!(read, Command::Write { .. }));
             self.told.extend(told.line);
         }
     }
@@ -132,6 +147,10 @@ impl Script {
     fn beyond(&mut self, more: u64, bytes: &[u8]) {
         let bytes = without_ends(bytes);
         self.add(Command::Beyond { more, bytes });
+    }
+
+    fn write(&mut self, record: Written, length: usize) {
+        self.add(Command::Write { record, length });
     }
 
     fn state(&self) -> State {
@@ -183,7 +202,7 @@ mod tests {
     fn scripts_of_6000_calls() {
         for seed in 1..=5 {
             let script = make(seed, 6_000);
-            assert!(script.numbers.all() >= 6_000);
+            assert!(script.calls >= 6_000);
             assert!(script.text.len() <= LONGEST, "{}", script.text.len());
             assert_eq!(script.fixed_scenes_left, 0);
             assert_eq!(script.numbers.check(PROMISED), Ok(()));

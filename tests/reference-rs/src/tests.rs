@@ -4,6 +4,7 @@ mod any_state;
 mod calls;
 mod examples;
 mod generated;
+mod writing;
 
 use crate::calendar::Quarter;
 use crate::edits::Refusal;

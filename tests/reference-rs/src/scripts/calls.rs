@@ -3,8 +3,12 @@
 use super::moments::{content, Moment};
 use super::records::{line_for, short_line};
 use super::Script;
+use crate::command::LONGEST_SLICE;
+use crate::edits::Phase;
+use crate::layout::LENGTH;
 use crate::rng::Rng;
-use crate::walk::unfit;
+use crate::walk::{unfit, Standing};
+use crate::write::Written;
 
 /// A line call and an end call, each in the same walk.
 pub fn line_then_end(rng: &mut Rng, script: &mut Script, moment: &Moment) {
@@ -31,4 +35,27 @@ pub fn again(rng: &mut Rng, script: &mut Script) {
         script.set_tables(&content());
         script.end();
     }
+}
+
+/// The record that may be written where a walk stands; either where none may.
+pub fn record_for(rng: &mut Rng, standing: Standing) -> Written {
+    match standing {
+        Standing::Among(Phase::EOpen) => Written::T,
+        Standing::Among(Phase::AfterT) => Written::F,
+        _ => rng.pick(&Written::BOTH),
+    }
+}
+
+/// A writing call, mostly of the record that may be written now and into a slice of its length.
+pub fn some_writing(rng: &mut Rng, script: &mut Script) {
+    let (fitting, any) = (
+        record_for(rng, script.state().standing),
+        rng.pick(&Written::BOTH),
+    );
+    let some_length = rng.index(LONGEST_SLICE + 1);
+    let other_length = rng.pick(&[LENGTH - 1, LENGTH + 1, some_length]);
+    script.write(
+        if rng.one_in(6) { any } else { fitting },
+        if rng.one_in(6) { other_length } else { LENGTH },
+    );
 }

@@ -1,6 +1,7 @@
 //! Scenes by chance: altered states, walks with incidents, whole files.
 
 use super::broken::broken;
+use super::calls::some_writing;
 use super::moments::{rest_of, walked};
 use super::near;
 use super::records::{line_for, piece, short_line, too_little};
@@ -65,6 +66,7 @@ fn altered_state(rng: &mut Rng, script: &mut Script) {
     if rng.one_in(4) {
         alter_tables(rng, script, &rest);
     }
+    some_writing(rng, script);
     if rng.one_in(6) {
         script.end();
     }
@@ -119,6 +121,9 @@ fn walk(rng: &mut Rng, script: &mut Script) {
         if !calm && rng.one_in(6) {
             incident(rng, script, rest);
         }
+        if rng.one_in(4) {
+            some_writing(rng, script);
+        }
         let read = script.state().lines_read;
         script.line(piece(rng, rest));
         if script.state().lines_read == read {
@@ -127,6 +132,7 @@ fn walk(rng: &mut Rng, script: &mut Script) {
         rest = &rest[first_line(rest).taken()..];
     }
     script.end();
+    some_writing(rng, script);
     for _ in 0..rng.below(3) {
         script.line(short_line(rng));
         script.end();

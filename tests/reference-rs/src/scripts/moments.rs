@@ -48,6 +48,8 @@ pub const LENT: Room = Room {
 };
 
 pub const HELD: Quarter = Quarter::new(2026, 6);
+/// A's in `base`.
+pub const QUARTER: Quarter = Quarter::new(2026, 3);
 
 /// Two employers, of two and of three employees, one of them applied for.
 pub fn base() -> Draft {
@@ -61,7 +63,7 @@ pub fn base() -> Draft {
             employees: vec![(333_333_333, 300), (0, 50), (444_444_444, 25)],
         },
     ];
-    tidy(HELD, Quarter::new(2026, 3), &employers)
+    tidy(HELD, QUARTER, &employers)
 }
 
 /// The walk over `base` in each of the seven phases; with an E open it is the second, with all of
@@ -93,6 +95,16 @@ pub fn refused(number: u8) -> Moment {
 /// `base` with its second E open.
 pub fn e_open() -> Moment {
     walked(&base(), 9, LENT)
+}
+
+/// With its second E open, which says 1, and no S under it yet.
+pub fn e_open_without_s() -> Moment {
+    walked(&base(), 6, LENT)
+}
+
+/// An E open that says 0.
+pub fn e_open_saying_0() -> Moment {
+    walked(&zero_return(HELD, QUARTER), 2, LENT)
 }
 
 pub fn after_t() -> Moment {

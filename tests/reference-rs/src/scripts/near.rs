@@ -6,6 +6,7 @@ use crate::draft::MOST_WAGES;
 use crate::edits::Refusal;
 use crate::rng::Rng;
 use crate::walk::{OpenE, Standing, State};
+use crate::write::{TOO_MUCH_FOR_F, TOO_MUCH_FOR_T};
 
 /// The most that the columns of a command hold.
 const MOST_OF_COUNT: u64 = 9_999_999_999;
@@ -33,11 +34,16 @@ fn alter_standing_or_quarter(rng: &mut Rng, state: &mut State) {
 }
 
 fn alter_file(rng: &mut Rng, state: &mut State) {
-    match rng.below(5) {
+    match rng.below(6) {
         0 => state.lines_read = near(rng, state.lines_read, 231_074, MOST_OF_LINES),
         1 => state.employers = near(rng, state.employers, 2, MOST_OF_COUNT),
         2 => state.s = near(rng, state.s, 100_000, MOST_OF_COUNT),
         3 => state.s = near(rng, state.s, state.open.s, MOST_OF_COUNT),
+        // What F holds, with S records enough for it.
+        4 => {
+            state.s = state.s.max(11);
+            state.cents = near(rng, state.cents, TOO_MUCH_FOR_F, MOST_OF_CENTS);
+        }
         _ => {
             let most = state.s.min(100_000) * MOST_WAGES;
             state.cents = near(rng, state.cents, most, MOST_OF_CENTS);
@@ -47,7 +53,7 @@ fn alter_file(rng: &mut Rng, state: &mut State) {
 
 fn alter_open_e(rng: &mut Rng, state: &mut State) {
     let open = &mut state.open;
-    match rng.below(7) {
+    match rng.below(8) {
         0 => open.fein = near(rng, open.fein, 999_999_999, MOST_OF_COUNT),
         1 => open.says_s_follow = !open.says_s_follow,
         2 => open.s = near(rng, open.s, state.s, MOST_OF_COUNT),
@@ -57,6 +63,12 @@ fn alter_open_e(rng: &mut Rng, state: &mut State) {
         }
         4 => open.ids_in_use = near(rng, open.ids_in_use, 3, MOST_OF_COUNT),
         5 => (open.s, open.cents) = (0, 0),
+        // What T holds, with S records enough for it.
+        6 => {
+            open.s = open.s.max(2);
+            state.s = state.s.max(open.s);
+            open.cents = near(rng, open.cents, TOO_MUCH_FOR_T, MOST_OF_CENTS);
+        }
         _ => *open = OpenE::default(),
     }
 }

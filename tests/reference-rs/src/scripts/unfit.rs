@@ -1,10 +1,12 @@
-//! Each bound of 72 at its value and one off, in each of the seven phases, with line and with end.
+//! Each bound of 72 at its value and one off, in each of the seven phases, with line and with end;
+//! and with a record written, where what the tables bound is free.
 
-use super::calls::line_then_end;
+use super::calls::{line_then_end, record_for};
 use super::moments::{in_each_phase, HELD, LENT};
 use super::Scene;
 use crate::calendar::Quarter;
 use crate::draft::MOST_WAGES;
+use crate::layout::LENGTH;
 use crate::walk::{OpenE, State};
 
 type Alter = Box<dyn Fn(&mut State)>;
@@ -18,6 +20,8 @@ pub fn add(scenes: &mut Vec<Scene>) {
             alter(&mut altered.state);
             scenes.push(Box::new(move |rng, script| {
                 script.lent = LENT;
+                script.set_state(altered.state);
+                script.write(record_for(rng, altered.state.standing), LENGTH);
                 line_then_end(rng, script, &altered);
             }));
         }
@@ -176,17 +180,16 @@ mod tests {
     use super::*;
     use crate::scripts::moments::e_open;
     use crate::walk::unfit;
+    use crate::write::write_t;
 
     /// Which alterations of a walk with an E open are fit (`f`) and which are unfit (`u`), by hand
-    /// and in the order of `alterations`.
-    #[test]
-    fn by_hand_with_an_e_open() {
+    /// and in the order of `alterations`; what the two tables bound is given.
+    fn by_hand(ids: &str, employers: &str) -> String {
         let around = "ffu";
         let months = "uuufuufuufuufu";
-        let wanted = [
-            "f",
+        let parts = [
             // Counts: ids, employers, S records, those of the open E, lines.
-            &around.repeat(5),
+            &["f", ids, employers, &around.repeat(3)].concat(),
             // Sums.
             &around.repeat(3),
             "fu",
@@ -207,14 +210,30 @@ mod tests {
             // What counts in some walks only.
             "uuuf",
         ];
-        let found: String = alterations()
-            .iter()
-            .map(|alter| {
-                let mut state = e_open().state;
-                alter(&mut state);
-                ["f", "u"][usize::from(unfit(&state, LENT.ids, LENT.employers))]
-            })
-            .collect();
-        assert_eq!(found, wanted.concat());
+        parts.concat()
+    }
+
+    fn found(is_unfit: impl Fn(&State) -> bool) -> String {
+        let found = alterations().into_iter().map(|alter| {
+            let mut state = e_open().state;
+            alter(&mut state);
+            ["f", "u"][usize::from(is_unfit(&state))]
+        });
+        found.collect()
+    }
+
+    #[test]
+    fn by_hand_with_an_e_open() {
+        let line_or_end = found(|state| unfit(state, LENT.ids, LENT.employers));
+        assert_eq!(line_or_end, by_hand("ffu", "ffu"));
+    }
+
+    #[test]
+    fn by_hand_with_no_table_lent() {
+        let writing = found(|state| {
+            let answer = write_t(state, &mut [0; LENGTH]);
+            answer.is_some_and(|refusal| refusal.number == 72)
+        });
+        assert_eq!(writing, by_hand("fff", "fff"));
     }
 }

@@ -63,7 +63,7 @@ fn any_standing(rng: &mut Rng) -> Standing {
 }
 
 /// A state that is fit but for at most a few of its numbers.
-fn any_state(rng: &mut Rng) -> State {
+pub fn any_state(rng: &mut Rng) -> State {
     let (mut state, _, _) = e_open();
     state.standing = any_standing(rng);
     state.open.says_s_follow = !rng.one_in(3);

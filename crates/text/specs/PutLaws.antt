@@ -1,0 +1,72 @@
+-- The laws of text written into a line: how a loop writes it, what then stands in its columns, and that the others stay as they were.
+use Prim.Native.Nat.{ℕ, zero, suc, _+_, _-_, _<_, _≤_}
+use mathlib.Core.Path.{_≡_, refl, sym, _∙_}
+use mathlib.Core.List.{List, [], _∷_, _++_, append-nil}
+use mathlib.Core.Logic.{_⊎_, inl, inr}
+use native.Mathlib.Nat.{add-zero, not-suc-le-zero}
+use native.Mathlib.Numerals.{add-one}
+use native.Mathlib.Omega.{arith}
+use lib.ListN.{length, getD, set, drop, length-set, length-replicate, replicate-append-replicate, drop-of-length-le}
+use lib.Seq.{drop-cons, drop-length, append-snoc, set-at, set-out, getD-set-same, getD-set-other, sets, length-sets}
+use Rattle.text.specs.Put.{blanks, putText}
+
+-- ---- a blank line, i columns done
+module _ (line : List ℕ) (i : ℕ) where
+  abbrev pub blankTo : List ℕ
+  blankTo = blanks i ++ drop i line
+
+pub blank-more : (line : List ℕ) (i : ℕ) → i < length line → set (blankTo line i) i 0x20 ≡ blankTo line (i + 1)
+blank-more line i h =
+    rw (drop-cons line i 0 h, set-at (blanks i) _ _ 0x20 i (length-replicate i 0x20), ← replicate-append-replicate {A = ℕ} i 1 0x20)
+    (sym (append-snoc (blanks i) 0x20 (drop (suc i) line)) ∙ rw add-one)
+
+pub blank-done : (line : List ℕ) (i : ℕ) → length line ≡ i → blankTo line i ≡ blanks (length line)
+blank-done line i e = rw (← e, drop-length, append-nil)
+
+-- Behind the line's end nothing is written.
+none-past : (text line : List ℕ) (at : ℕ) → length line ≤ at → sets line at text ≡ line
+none-past [] line at h = refl
+none-past (c ∷ text) line at h = rw (set-out line at c h) (none-past text line (suc at) (omega arith))
+
+-- ---- a loop's steps: the text from its character i on, at a place of the line
+module _ (line text : List ℕ) (at i : ℕ) where
+  pub text-past : length line ≤ at → sets line at (drop i text) ≡ line
+  text-past h = none-past (drop i text) line at h
+
+  pub text-done : length text ≤ i → sets line at (drop i text) ≡ line
+  text-done h = rw (drop-of-length-le text h)
+
+  pub text-more : i < length text → sets line at (drop i text) ≡ sets (set line at (getD text i 0)) (at + 1) (drop (i + 1) text)
+  text-more h = rw (drop-cons text i 0 h, add-one, add-one)
+
+-- ---- the columns
+sets-elsewhere : (text line : List ℕ) (at j : ℕ) → (j < at) ⊎ (at + length text ≤ j) → getD (sets line at text) j 0 ≡ getD line j 0
+sets-elsewhere [] line at j h = refl
+sets-elsewhere (c ∷ text) line at j (inl h) =
+    sets-elsewhere text (set line at c) (suc at) j (inl (omega arith)) ∙ getD-set-other line at j c 0 (λ q. omega arith)
+sets-elsewhere (c ∷ text) line at j (inr h) =
+    sets-elsewhere text (set line at c) (suc at) j (inr (omega arith)) ∙ getD-set-other line at j c 0 (λ q. omega arith)
+
+sets-at : (text line : List ℕ) (at k : ℕ) → at + length text ≤ length line → k < length text → getD (sets line at text) (at + k) 0 ≡ getD text k 0
+sets-at [] line at k h l = absurd (not-suc-le-zero l)
+sets-at (c ∷ text) line at zero h l =
+    rw add-zero (sets-elsewhere text (set line at c) (suc at) at (inl (omega arith)) ∙ getD-set-same line at c 0 (omega arith))
+sets-at (c ∷ text) line at (suc k) h l =
+    let place : at + suc k ≡ suc at + k = omega arith in
+    rw place (sets-at text (set line at c) (suc at) k (rw length-set (omega arith)) (omega arith))
+
+module _ (line : List ℕ) (first : ℕ) (text : List ℕ) where
+  -- Writing leaves the line's length,
+  pub put-text-length : length (putText line first text) ≡ length line
+  unfolding putText
+  put-text-length = length-sets line (first - 1) text
+
+  -- and every column before and behind the text's.
+  pub put-text-elsewhere : (j : ℕ) → (j < first - 1) ⊎ (first - 1 + length text ≤ j) → getD (putText line first text) j 0 ≡ getD line j 0
+  unfolding putText
+  put-text-elsewhere j h = sets-elsewhere text line (first - 1) j h
+
+  -- Character k of the text stands so far behind the first column.
+  pub put-text-at : first - 1 + length text ≤ length line → (k : ℕ) → k < length text → getD (putText line first text) (first - 1 + k) 0 ≡ getD text k 0
+  unfolding putText
+  put-text-at h k l = sets-at text line (first - 1) k h l

@@ -1,0 +1,9 @@
+pub mod Records
+pub mod Writing
+pub mod WritingLaws
+pub mod PartLaws
+pub mod FieldLaws
+pub mod Accepted
+pub mod Made
+pub mod Theorems
+pub mod Once

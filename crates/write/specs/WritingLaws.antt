@@ -1,0 +1,63 @@
+-- The laws of writing: nothing is refused exactly if no reason to refuse is there, and the slice is the record exactly then.
+use Prim.Native.Nat.{ℕ}
+use mathlib.Core.Bool.{Bool, true, false}
+use mathlib.Core.List.{List}
+use mathlib.Core.Path.{_≡_, refl, sym, ap, _∙_}
+use native.Mathlib.Omega.{arith}
+use lib.Dec.{eqb}
+use borrow.Author.Tests.{eqb-true, ne-eqb}
+use Rattle.reason.specs.Numbers.{Notice, notice}
+use Rattle.reason.specs.Once.{never-zero}
+use Rattle.reason.specs.declared.Refusal.{Refusal}
+use Rattle.step.specs.Moves.{allWell}
+use Rattle.write.specs.Writing.{refusalOf, writing, noticeIn, writtenBy}
+use Rattle.write.specs.declared.Wrote.{Wrote}
+use Rattle.write.specs.declared.Wrote.the-variants.{Record, Refused}
+
+-- No reason to refuse is there.
+pub record Free (unfitness long next none large : Bool) : Type 0 where
+  pub fit : unfitness ≡ false
+  pub is-long : long ≡ true
+  pub in-place : next ≡ true
+  pub some : none ≡ false
+  pub small : large ≡ false
+
+pub not-refused : (unfitness long next none large : Bool) → refusalOf unfitness long next none large ≡ 0 → Free unfitness long next none large
+unfolding refusalOf
+not-refused true long next none large e = absurd (omega arith)
+not-refused false false next none large e = absurd (omega arith)
+not-refused false true false none large e = absurd (omega arith)
+not-refused false true true true large e = absurd (omega arith)
+not-refused false true true false true e = absurd (omega arith)
+not-refused false true true false false e = record { fit = refl; is-long = refl; in-place = refl; some = refl; small = refl }
+
+pub free-written : (unfitness long next none large : Bool) → Free unfitness long next none large → refusalOf unfitness long next none large ≡ 0
+unfolding refusalOf
+free-written unfitness long next none large free = rw (free .fit, free .is-long, free .in-place, free .some, free .small)
+
+-- The number of the answer is 0 where the record is written, and only there.
+module _ (number : ℕ) (wrote : Wrote) (says : noticeIn wrote ≡ notice number 0 0) where
+  written-zero : wrote ≡ Record → number ≡ 0
+  written-zero e = sym (ap (λ (n : Notice). n .number) (ap noticeIn (sym e) ∙ says))
+
+  refused-number : (why : Refusal) → wrote ≡ Refused why → number ≡ 0 → ⊥
+  refused-number why e zero = never-zero (why .reason) (ap (λ (n : Notice). n .number) (ap noticeIn (sym e) ∙ says) ∙ zero)
+
+  -- So the slice is the record there, and as it was elsewhere.
+  module _ (line out : List ℕ) where
+    pub writes : wrote ≡ Record → writtenBy wrote line ≡ writing number line out
+    writes e = rw (says, written-zero e)
+
+    pub leaves : (why : Refusal) → wrote ≡ Refused why → writtenBy wrote out ≡ writing number line out
+    leaves why e = rw (says, ne-eqb number 0 (refused-number why e))
+
+-- A slice that is written has 290 bytes.
+pub written-length : (unfitness : Bool) (size : ℕ) (next none large : Bool) (wrote : Wrote)
+    → noticeIn wrote ≡ notice (refusalOf unfitness (eqb size 290) next none large) 0 0 → wrote ≡ Record → size ≡ 290
+written-length unfitness size next none large wrote says e =
+    let long = eqb size 290 in
+    eqb-true size 290 (not-refused unfitness long next none large (written-zero (refusalOf unfitness long next none large) wrote says e) .is-long)
+
+-- What is not refused is written.
+pub written-is : (number : ℕ) (line out : List ℕ) → notice number 0 0 ≡ allWell → writing number line out ≡ record { says = allWell; out = line }
+written-is number line out says = let zero : number ≡ 0 = ap (λ (n : Notice). n .number) says in rw zero

@@ -1,0 +1,191 @@
+// The T and the F record that a walk accepts next, written into a lent slice.
+use edits::Open;
+use edits::Phase;
+use edits::Totals;
+use reason::Reason;
+use reason::Refusal;
+use state::Stage;
+use state::State;
+use state::fitness;
+use text::put;
+ghost use mathlib.Core.Path.{_≡_};
+ghost use lib.ListN.{length};
+ghost use Rattle.reason.specs.Numbers.{notice, numberOf};
+ghost use Rattle.state.specs.Unfit.{unfit};
+ghost use Rattle.state.specs.Walks.{reading, walkOf, standingOf};
+ghost use Rattle.write.specs.Records.{totalRecord, finalRecord};
+ghost use Rattle.write.specs.Writing.{noTables, isAfterT, noneToTotal, refusalOf, totalRefusal, finalRefusal, totalWriting, finalWriting, noticeIn, writtenBy};
+
+// The record is written; or it is not, and the slice is as it was.
+pub enum Wrote {
+    Record,
+    Refused(Refusal),
+}
+
+const LETTER_T: [u8; 1] = *b"T";
+
+const LETTER_F: [u8; 1] = *b"F";
+
+// A sum that is too large for the 14 columns of T, and for the 15 of F.
+const TOO_LARGE_FOR_T: u64 = 100000000000000;
+
+const TOO_LARGE_FOR_F: u64 = 1000000000000000;
+
+fn refused(reason: Reason) -> Wrote
+    ensures { λ r. ⌜ noticeIn r ≡ notice (numberOf reason) 0 0 ⌝ }
+{
+    Wrote::Refused(Refusal {
+        line: 0,
+        column: 0,
+        reason,
+    })
+}
+
+fn phase_after_t(phase: Phase) -> bool
+    ensures { λ r. ⌜ r ≡ isAfterT (reading phase) ⌝ }
+{
+    match phase {
+        Phase::BeforeA => false,
+        Phase::AfterA => false,
+        Phase::EOpen => false,
+        Phase::AfterT => true,
+        Phase::AfterF => false,
+    }
+}
+
+// Whether the walk stands right after a T.
+fn is_after_t(stage: Stage) -> bool
+    ensures { λ r. ⌜ r ≡ isAfterT (standingOf stage) ⌝ }
+{
+    match stage {
+        Stage::Reading(phase) => phase_after_t(phase),
+        Stage::Accepted => false,
+        Stage::Refused(_) => false,
+    }
+}
+
+// No S record stands under an E that says that some follow.
+fn none_to_total(e: Open) -> bool
+    ensures { λ r. ⌜ r ≡ noneToTotal e ⌝ }
+{
+    if e.count == 0 {
+        return e.follow;
+    }
+    false
+}
+
+// 72 for a call that is lent no table: room for what is in use.
+fn is_unfit(st: State) -> bool
+    ensures { λ r. ⌜ r ≡ unfit (noTables (walkOf st)) (walkOf st) ⌝ }
+{
+    let all = st.all;
+    fitness::is_unfit(st, st.used, all.employers as usize)
+}
+
+// The refusals in order: `long` says that the slice has its length, `next` that the record may come next, `none` that there is none to total,
+// `large` that the sum is too large.
+fn answer(unfit: bool, long: bool, next: bool, none: bool, large: bool) -> Wrote
+    ensures { λ r. ⌜ noticeIn r ≡ notice (refusalOf unfit long next none large) 0 0 ⌝ }
+{
+    if unfit {
+        return refused(Reason::StateUnfit);
+    }
+    if !long {
+        return refused(Reason::SliceLength);
+    }
+    if !next {
+        return refused(Reason::NotToBeWritten);
+    }
+    if none {
+        return refused(Reason::NoneToTotal);
+    }
+    if large {
+        return refused(Reason::SumTooLarge);
+    }
+    Wrote::Record
+}
+
+// What is answered to a call that would write T into a slice of so many bytes.
+fn answer_t(st: State, size: usize) -> Wrote
+    ensures { λ r. ⌜ noticeIn r ≡ notice (totalRefusal (walkOf st) size) 0 0 ⌝ }
+{
+    let stage = st.stage;
+    let open = st.open;
+    let unfit = is_unfit(st);
+    let next = fitness::is_open(stage);
+    let none = none_to_total(open);
+    let long = size == layout::RECORD as usize;
+    let large = TOO_LARGE_FOR_T <= open.sum;
+    answer(unfit, long, next, none, large)
+}
+
+// The same for F.
+fn answer_f(st: State, size: usize) -> Wrote
+    ensures { λ r. ⌜ noticeIn r ≡ notice (finalRefusal (walkOf st) size) 0 0 ⌝ }
+{
+    let stage = st.stage;
+    let all = st.all;
+    let unfit = is_unfit(st);
+    let next = is_after_t(stage);
+    let long = size == layout::RECORD as usize;
+    let large = TOO_LARGE_FOR_F <= all.sum;
+    answer(unfit, long, next, false, large)
+}
+
+// T of the open E, in a slice of the right length.
+fn put_t(e: Open, out: &mut [u8])
+    requires { ⌜ length (now out) ≡ 290 ⌝ }
+    ensures { λ _. ⌜ now (out .exit) ≡ totalRecord e ⌝ }
+{
+    let letter = LETTER_T;
+    let code = record::ENTITY;
+    put::blank_line(out);
+    put::put_text(out, 1, &letter);
+    number::write_number(out, 2, 8, e.count);
+    put::put_text(out, 9, &code);
+    number::write_number(out, 13, 21, e.fein);
+    number::write_number(out, 27, 40, e.sum);
+}
+
+// F of the whole file.
+fn put_f(all: Totals, out: &mut [u8])
+    requires { ⌜ length (now out) ≡ 290 ⌝ }
+    ensures { λ _. ⌜ now (out .exit) ≡ finalRecord all ⌝ }
+{
+    let letter = LETTER_F;
+    let code = record::ENTITY;
+    put::blank_line(out);
+    put::put_text(out, 1, &letter);
+    number::write_number(out, 2, 11, all.count);
+    number::write_number(out, 12, 21, all.employers);
+    put::put_text(out, 22, &code);
+    number::write_number(out, 41, 55, all.sum);
+}
+
+// The T record that the walk accepts next.
+pub fn write_t(st: State, out: &mut [u8]) -> Wrote
+    ensures { λ r. ⌜ writtenBy r (now (out .exit)) ≡ totalWriting (walkOf st) (now (out .entry)) ⌝ }
+{
+    let answer = answer_t(st, out.len());
+    match answer {
+        Wrote::Refused(_) => answer,
+        Wrote::Record => {
+            put_t(st.open, out);
+            answer
+        }
+    }
+}
+
+// The F record that the walk accepts next.
+pub fn write_f(st: State, out: &mut [u8]) -> Wrote
+    ensures { λ r. ⌜ writtenBy r (now (out .exit)) ≡ finalWriting (walkOf st) (now (out .entry)) ⌝ }
+{
+    let answer = answer_f(st, out.len());
+    match answer {
+        Wrote::Refused(_) => answer,
+        Wrote::Record => {
+            put_f(st.all, out);
+            answer
+        }
+    }
+}
