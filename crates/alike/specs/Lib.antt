@@ -4,3 +4,7 @@ pub mod Rest
 pub mod Onward
 pub mod Lines
 pub mod Employee
+pub mod Own
+pub mod Hypotheses
+pub mod Pair
+pub mod Needed

@@ -30,11 +30,11 @@ use Rattle.meaning.specs.Meaning.{editsFrom, firstOfFile, recordsOnto, Outcome,
 use Rattle.cases.specs.Example.{Change, reads, lacks, hasMore, exampleWith}
 
 -- "Tables: 1,024 employers, 8,192 ids."
-abbrev room : Room
+abbrev pub room : Room
 room = record { ids = 8192; list = 1024 }
 
 -- The last closed quarter: no file below is of a later one.
-abbrev held : Quarter
+abbrev pub held : Quarter
 held = record { year = 2028; month = 3 }
 
 -- A case: its letter, a file, and what the paper says of the file.
@@ -46,12 +46,23 @@ pub record Case : Type 0 where
 abbrev case : String → List ℕ → Outcome → Case
 case letter file stated = record { letter = letter; file = file; stated = stated }
 
--- What the definitions say of it.
-abbrev pub computed : Case → Outcome
+-- What the definitions say of it. Where this is opened, so is all that it is computed with.
+unfoldable pub computed : Case → Outcome
+unfolding
+    bytes firstOf
+    linesFrom isEnd textOf endOf lengthTest endTest
+    isLeap monthDays daysIn isDate inQuarter isFilingYear isQuarterMonth isAfter
+    Codes.codesIn Codes.states Codes.provinces Codes.isCode Codes.isAmong Codes.regionOf
+    isPermitted capitalOf capitals isBlank isDigit isLetter isOfName columnTest everyColumn
+    numberFrom numberIn valueIn periodIn flagIn beginsWith69 mayBeFiled
+    allBlank isIndented isAsked readsAs hasPattern
+    classes classOf fieldsOfA fieldsOfE fieldsOfS fieldsOfT fieldsOfF
+    ruleList ruleOf fieldEdits kindOf rulesOfA rulesOfE rulesOfS rulesOfT rulesOfF
+    isAmong editsFrom firstOfFile recordsOnto
 computed c = meaning room held (c .file)
 
 -- "passes": the file is accepted, with its employer of this FEIN and the totals of the two employees.
-abbrev passes : ℕ → Outcome
+abbrev pub passes : ℕ → Outcome
 passes fein = accepted (record { fein = fein; count = 2; cents = 123500 } ∷ []) (record { count = 2; employers = 1; sum = 123500 })
 
 -- Another year, on A, E and S.
@@ -102,15 +113,5 @@ table =
 
 -- In every case the definitions say what the paper says.
 pub cases : map computed table ≡ map (λ (c : Case). c .stated) table
-unfolding
-    bytes firstOf
-    linesFrom isEnd textOf endOf lengthTest endTest
-    isLeap monthDays daysIn isDate inQuarter isFilingYear isQuarterMonth isAfter
-    Codes.codesIn Codes.states Codes.provinces Codes.isCode Codes.isAmong Codes.regionOf
-    isPermitted capitalOf capitals isBlank isDigit isLetter isOfName columnTest everyColumn
-    numberFrom numberIn valueIn periodIn flagIn beginsWith69 mayBeFiled
-    allBlank isIndented isAsked readsAs hasPattern
-    classes classOf fieldsOfA fieldsOfE fieldsOfS fieldsOfT fieldsOfF
-    ruleList ruleOf fieldEdits kindOf rulesOfA rulesOfE rulesOfS rulesOfT rulesOfF
-    isAmong editsFrom firstOfFile recordsOnto
+unfolding computed
 cases = refl

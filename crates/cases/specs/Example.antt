@@ -31,12 +31,12 @@ changedLine c text = take (c .column - 1) text ++ c .instead ++ drop (c .column 
 abbrev changedBy : Change → List (List ℕ) → List (List ℕ)
 changedBy c lines = set lines (c .line - 1) (changedLine c (getD lines (c .line - 1) []))
 
-abbrev changed : List Change → List (List ℕ) → List (List ℕ)
+abbrev pub changed : List Change → List (List ℕ) → List (List ℕ)
 changed [] lines = lines
 changed (c ∷ changes) lines = changed changes (changedBy c lines)
 
 -- The file of these lines: each ends in LF, which is 10.
-abbrev fileOf : List (List ℕ) → List ℕ
+abbrev pub fileOf : List (List ℕ) → List ℕ
 fileOf [] = []
 fileOf (line ∷ lines) = line ++ (10 ∷ fileOf lines)
 
@@ -86,6 +86,10 @@ entries =
     reads 6 41 "000000000123500" ∷
     []
 
+-- The example's lines.
+abbrev pub exampleLines : List (List ℕ)
+exampleLines = changed entries (replicate 6 (replicate 290 0x20))
+
 -- The example's file with changes.
 abbrev pub exampleWith : List Change → List ℕ
-exampleWith changes = fileOf (changed (entries ++ changes) (replicate 6 (replicate 290 0x20)))
+exampleWith changes = fileOf (changed changes exampleLines)

@@ -21,7 +21,7 @@ agree-from u v first n agree at low high =
     getD-drop (first - 1) u at 0 ∙ agree (first - 1 + at) (omega arith) (omega arith) ∙ sym (getD-drop (first - 1) v at 0)
 
 -- ---- the columns are asked one by one
-each-fine : (allowed : Allowed) (line : List ℕ) (first last : ℕ) → everyColumn allowed line first last ≡ fine
+pub each-fine : (allowed : Allowed) (line : List ℕ) (first last : ℕ) → everyColumn allowed line first last ≡ fine
     → (at : ℕ) → first - 1 ≤ at → at < last → allowedTest allowed line at ≡ fine
 unfolding everyColumn
 each-fine allowed line first last e at low high =

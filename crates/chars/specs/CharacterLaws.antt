@@ -8,7 +8,7 @@ use lib.Dec.{eqb, leb}
 use lib.ListN.{length, getD, take, drop, length-map, List·getD-map}
 use borrow.Author.Tests.{eqb-true, eqb-false, le-leb, lt-leb, eq-eqb, ne-eqb}
 use Rattle.laws.specs.Choice.{if_then_else_, within}
-use Rattle.chars.specs.Characters.{capitalOf, capitals, isDigit}
+use Rattle.chars.specs.Characters.{isPermitted, capitalOf, capitals, isBlank, isDigit, isLetter, isOfName}
 
 -- A line read in capitals has each of its characters in capitals, and as many.
 pub capital-at : (line : List ℕ) (at : ℕ) → getD (capitals line) at 0 ≡ capitalOf (getD line at 0)
@@ -83,3 +83,21 @@ unfolding capitals capitalOf
 capitals-already [] all = refl
 capitals-already (c ∷ line) all =
     rw (lt-leb 97 c (all 0 (omega arith))) (ap (λ (l : List ℕ). c ∷ l) (capitals-already line (λ k h. all (suc k) (omega arith))))
+
+-- ---- digits and the characters of names are permitted
+permitted-range : (c : ℕ) → 0x20 ≤ c → c ≤ 0x7e → isPermitted c ≡ true
+unfolding isPermitted
+permitted-range c low high = rw (le-leb 0x20 c low, le-leb c 0x7e high)
+
+pub digit-permitted : (c : ℕ) → isDigit c ≡ true → isPermitted c ≡ true
+digit-permitted c d = let r = digit-range c d in permitted-range c (omega arith) (omega arith)
+
+pub name-permitted : (c : ℕ) → isOfName c ≡ true → isPermitted c ≡ true
+unfolding isOfName isLetter isBlank
+name-permitted c = by (leb 65 c && leb c 90) (eqb c 0x20) (eqb c 0x2d) refl refl refl where
+  by : (letter blank hyphen : Bool) → leb 65 c && leb c 90 ≡ letter → eqb c 0x20 ≡ blank → eqb c 0x2d ≡ hyphen
+      → (letter || (blank || (hyphen || eqb c 0x27))) ≡ true → isPermitted c ≡ true
+  by true blank hyphen l b h n = let w = within 65 c 90 l in permitted-range c (omega arith) (omega arith)
+  by false true hyphen l b h n = let e = eqb-true c 0x20 b in permitted-range c (omega arith) (omega arith)
+  by false false true l b h n = let e = eqb-true c 0x2d h in permitted-range c (omega arith) (omega arith)
+  by false false false l b h n = let e = eqb-true c 0x27 n in permitted-range c (omega arith) (omega arith)

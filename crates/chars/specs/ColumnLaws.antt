@@ -10,6 +10,7 @@ use Rattle.laws.specs.Choice.{if_then_else_}
 use Rattle.laws.specs.Finding.{fine, broken, firstOf}
 use Rattle.laws.specs.First.{none-is-broken, finds-nothing}
 use Rattle.laws.specs.Numbered.{Between, Within, fine-within, broken-within, choice-within, first-within}
+use Rattle.chars.specs.CharacterLaws.{digit-permitted, name-permitted}
 use Rattle.chars.specs.Characters.{isPermitted, isBlank, isDigit, isOfName}
 use Rattle.chars.specs.CharacterLaws.{digit-range}
 use Rattle.chars.specs.Columns.{widthOf, columnTest, allowedTest, everyColumn, unless}
@@ -40,6 +41,18 @@ every-anything line first last = finds-nothing (allowedTest Anything line) (widt
 pub unless-fine : (passes : Bool) (first number : ℕ) → unless passes first number ≡ fine → passes ≡ true
 unless-fine true first number e = refl
 unless-fine false first number e = let z : _≡_ {A = ℕ} 0 1 = cc in absurd (omega arith)
+
+-- Columns of digits, and columns of a name, hold permitted characters.
+permitted-column : (test : ℕ → Bool) → ((c : ℕ) → test c ≡ true → isPermitted c ≡ true) → (number : ℕ) (line : List ℕ) (at : ℕ)
+    → columnTest test number line at ≡ fine → allowedTest Permitted line at ≡ fine
+unfolding columnTest
+permitted-column test permits number line at e = rw (permits (getD line at 0) (unless-fine (test (getD line at 0)) (at + 1) number e))
+
+pub digits-permitted : (line : List ℕ) (at : ℕ) → allowedTest Digits line at ≡ fine → allowedTest Permitted line at ≡ fine
+digits-permitted = permitted-column isDigit digit-permitted 30
+
+pub names-permitted : (line : List ℕ) (at : ℕ) → allowedTest OfNames line at ≡ fine → allowedTest Permitted line at ≡ fine
+names-permitted = permitted-column isOfName name-permitted 54
 
 -- ---- the numbers of the refusals
 module _ (least most : ℕ) where
