@@ -2,7 +2,6 @@
 use calendar::Quarter;
 use number::Number;
 use state::State;
-use step::Reply;
 ghost use Prim.Native.Nat.{_≤_, min};
 ghost use mathlib.Core.Bool.{_||_};
 ghost use mathlib.Core.Path.{_≡_};
@@ -11,7 +10,6 @@ ghost use lib.ListN.{length, drop};
 ghost use Rattle.tables.specs.Tables.{entriesOf};
 ghost use Rattle.tables.specs.Room.{tables as tablesOf};
 ghost use Rattle.state.specs.Walks.{walkOf};
-ghost use Rattle.step.specs.Moves.{takenIn};
 ghost use Rattle.step.specs.Steps.{endStep};
 ghost use Rattle.ack.specs.Turns.{headerQuarter, ends, linesTurn, headerTurn, turn as turnOf};
 ghost use Rattle.ack.specs.Answers.{progressOf, turnedBy};
@@ -86,7 +84,7 @@ fn lines_turn(
         let a = walk::line(st, &bytes[at..], ids, list);
         let reply = a.reply;
         let next = a.state;
-        let taken = taken_in(reply);
+        let taken = step::taken_in(reply);
         if taken == 0 {
             return finish(next, bytes, ids, list);
         }
@@ -110,16 +108,6 @@ fn is_whole(ended: bool, held: usize) -> bool
         return true;
     }
     292 <= held
-}
-
-// The bytes that a line took, 0 if it was refused.
-fn taken_in(reply: Reply) -> usize
-    ensures { λ r. ⌜ r ≡ takenIn reply ⌝ }
-{
-    match reply {
-        Reply::Fine(taken) => taken,
-        Reply::Refused(_) => 0,
-    }
 }
 
 fn has_header(ended: bool, held: usize) -> bool

@@ -24,26 +24,12 @@ use Rattle.ack.specs.Acknowledgement.{programRoom, fileFrames, acknowledgement}
 use Rattle.ack.specs.ProgramLaws.{header-held}
 use Rattle.ack.specs.Turns.{headerSize, headerQuarter}
 use Rattle.alike.specs.Alike.{Alike, AlikeLines}
-use Rattle.alike.specs.Level.{Level, shut}
+use Rattle.alike.specs.Level.{Level, shut, level-same}
 use Rattle.alike.specs.Lines.{Same, alike-ends}
 
 -- Before the first line there is no record.
 level-none : Level [] []
-level-none =
-    record {
-      lines = refl;
-      phase = refl;
-      filed = refl;
-      fein = refl;
-      follow = refl;
-      count = refl;
-      all-count = refl;
-      employers = refl;
-      used = refl;
-      feins = refl;
-      closed = refl;
-      sums = refl;
-    }
+level-none = level-same [] [] refl
 
 before-e : BeforeA ≡ EOpen → ⊥
 before-e e = let z : _≡_ {A = ℕ} 0 1 = cc in omega arith

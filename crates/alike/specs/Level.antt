@@ -2,11 +2,12 @@
 -- still open.
 use Prim.Native.Nat.{ℕ, _+_}
 use mathlib.Core.List.{List, []}
-use mathlib.Core.Path.{_≡_}
+use mathlib.Core.Path.{_≡_, ap}
 use native.Mathlib.Omega.{arith}
 use lib.ListN.{length}
 use Rattle.calendar.specs.declared.Quarter.{Quarter}
 use Rattle.edits.specs.declared.Open.{Open}
+use Rattle.edits.specs.declared.Phase.{Phase}
 use Rattle.edits.specs.declared.Phase.the-variants.{EOpen}
 use Rattle.edits.specs.declared.Totals.{Totals}
 use Rattle.lines.specs.Lines.{Line}
@@ -14,6 +15,7 @@ use Rattle.record.specs.Employees.{withoutWages}
 use Rattle.record.specs.declared.said.Said.{Said}
 use Rattle.tables.specs.Room.{Room}
 use Rattle.tables.specs.Tables.{isAmong}
+use Rattle.tables.specs.declared.Employer.{Employer}
 use Rattle.meaning.specs.Before.{phaseAfter, filedIn, openIn, idsUnder, totalsIn, feinsIn, closedIn}
 use Rattle.meaning.specs.Meaning.{contextAt}
 use Rattle.alike.specs.Alike.{under, repeatsAfter, wagesOf}
@@ -63,3 +65,46 @@ module _ (p q : List Said) (level : Level p q) where
 
   pub context-alike : (room : Room) (held : Quarter) → withoutWages (contextAt room held p) ≡ withoutWages (contextAt room held q)
   context-alike room held = rw (level .phase, level .filed, level .used, level .fein, level .follow, level .count, level .all-count, level .employers)
+
+-- All that the records come to, but for the numbers under the open E.
+pub record Sum : Type 0 where
+  pub lines : ℕ
+  pub phase : Phase
+  pub filed : Quarter
+  pub this : Open
+  pub all : Totals
+  pub used : ℕ
+  pub feins : List ℕ
+  pub closed : List Employer
+
+abbrev pub sumOf : List Said → Sum
+sumOf p =
+    record {
+      lines = length p;
+      phase = phaseAfter p;
+      filed = filedIn p;
+      this = openIn p;
+      all = totalsIn p;
+      used = length (idsUnder p);
+      feins = feinsIn p;
+      closed = closedIn p;
+    }
+
+pub level-same : (p q : List Said) → sumOf p ≡ sumOf q → Level p q
+level-same p q e =
+    let this : openIn p ≡ openIn q = ap (λ (s : Sum). s .this) e in
+    let all : totalsIn p ≡ totalsIn q = ap (λ (s : Sum). s .all) e in
+    record {
+      lines = ap (λ (s : Sum). s .lines) e;
+      phase = ap (λ (s : Sum). s .phase) e;
+      filed = ap (λ (s : Sum). s .filed) e;
+      fein = ap (λ (o : Open). o .fein) this;
+      follow = ap (λ (o : Open). o .follow) this;
+      count = ap (λ (o : Open). o .count) this;
+      all-count = ap (λ (t : Totals). t .count) all;
+      employers = ap (λ (t : Totals). t .employers) all;
+      used = ap (λ (s : Sum). s .used) e;
+      feins = ap (λ (s : Sum). s .feins) e;
+      closed = ap (λ (s : Sum). s .closed) e;
+      sums = rw (this, all);
+    }

@@ -18,7 +18,7 @@ use Rattle.tables.specs.Steps.{among-more}
 use Rattle.tables.specs.Tables.{isAmong}
 use Rattle.meaning.specs.Before.{andId, idsUnder, openIn}
 use Rattle.alike.specs.Alike.{under, repeats, wagesOf}
-use Rattle.alike.specs.Level.{Level, Holds, Run, shut, running, open-alike}
+use Rattle.alike.specs.Level.{Level, Holds, Run, shut, running, open-alike, totals-alike, sumOf, level-same}
 
 -- ---- an S record
 among-one : (v x : ℕ) → isAmong v (x ∷ []) ≡ eqb x v
@@ -73,69 +73,16 @@ Other OfF = Unit {0}
 Other OfNone = ⊥
 
 module _ (p q : List Said) (level : Level p q) (sum : openIn p .sum ≡ openIn q .sum) where
+  sum-other : (said : Said) → Other said → sumOf (said ∷ p) ≡ sumOf (said ∷ q)
+  sum-other (OfA quarter) other = rw (level .lines, totals-alike p q level sum, level .feins, level .closed)
+  sum-other (OfE employer) other = rw (level .lines, level .filed, totals-alike p q level sum, level .feins, level .closed)
+  sum-other (OfS employee) other = absurd other
+  sum-other OfT other = rw (level .lines, level .filed, totals-alike p q level sum, level .feins, level .closed, open-alike p q level sum)
+  sum-other OfF other = rw (level .lines, level .filed, totals-alike p q level sum, level .feins, level .closed)
+  sum-other OfNone other = absurd other
+
   pub level-other : (said : Said) → Other said → Level (said ∷ p) (said ∷ q)
-  level-other (OfA quarter) other =
-      record {
-        lines = rw (level .lines);
-        phase = refl;
-        filed = refl;
-        fein = refl;
-        follow = refl;
-        count = refl;
-        all-count = level .all-count;
-        employers = level .employers;
-        used = refl;
-        feins = level .feins;
-        closed = level .closed;
-        sums = omega (arith, level .sums, sum);
-      }
-  level-other (OfE employer) other =
-      record {
-        lines = rw (level .lines);
-        phase = refl;
-        filed = level .filed;
-        fein = refl;
-        follow = refl;
-        count = refl;
-        all-count = level .all-count;
-        employers = rw (level .employers);
-        used = refl;
-        feins = rw (level .feins);
-        closed = level .closed;
-        sums = omega (arith, level .sums, sum);
-      }
-  level-other (OfS employee) other = absurd other
-  level-other OfT other =
-      record {
-        lines = rw (level .lines);
-        phase = refl;
-        filed = level .filed;
-        fein = refl;
-        follow = refl;
-        count = refl;
-        all-count = level .all-count;
-        employers = level .employers;
-        used = refl;
-        feins = level .feins;
-        closed = rw (level .closed, open-alike p q level sum);
-        sums = omega (arith, level .sums, sum);
-      }
-  level-other OfF other =
-      record {
-        lines = rw (level .lines);
-        phase = refl;
-        filed = level .filed;
-        fein = refl;
-        follow = refl;
-        count = refl;
-        all-count = level .all-count;
-        employers = level .employers;
-        used = refl;
-        feins = level .feins;
-        closed = level .closed;
-        sums = omega (arith, level .sums, sum);
-      }
-  level-other OfNone other = absurd other
+  level-other said other = level-same (said ∷ p) (said ∷ q) (sum-other said other)
 
   -- Only an E begins a run.
   pub run-other : (said : Said) → Other said → (one other : List Line)

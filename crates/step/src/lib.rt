@@ -15,12 +15,22 @@ ghost use mathlib.Core.Path.{_≡_};
 ghost use Rattle.reason.specs.Numbers.{numberOf, noticeOf};
 ghost use Rattle.state.specs.Unfit.{mostLines};
 ghost use Rattle.state.specs.Walks.{walkOf, reading};
-ghost use Rattle.step.specs.Moves.{movedBy, stays as staysOf, again as againOf, refuses, accepts, endStanding, endMoved, openMoved};
+ghost use Rattle.step.specs.Moves.{takenIn, movedBy, stays as staysOf, again as againOf, refuses, accepts, endStanding, endMoved, openMoved};
 
 // The bytes taken, 0 at an end call; or a refusal.
 pub enum Reply {
     Fine(usize),
     Refused(Refusal),
+}
+
+// The bytes that a line took, 0 if it was refused.
+pub fn taken_in(reply: Reply) -> usize
+    ensures { λ r. ⌜ r ≡ takenIn reply ⌝ }
+{
+    match reply {
+        Reply::Fine(taken) => taken,
+        Reply::Refused(_) => 0,
+    }
 }
 
 // What a call hands back: the state for the next call, and the reply.

@@ -19,7 +19,7 @@ use Rattle.record.specs.Among.{judge-lent}
 use Rattle.record.specs.Judge.{seenOn}
 use Rattle.record.specs.Place.{endEdits}
 use Rattle.record.specs.declared.said.Said.{Said}
-use Rattle.tables.specs.Room.{Room, Tables, tables, roomOf, entriesUsed}
+use Rattle.tables.specs.Room.{Room, Tables, roomOf, entriesUsed}
 use Rattle.tables.specs.Tables.{isAmong}
 use Rattle.meaning.specs.Before.{phaseAfter, filedIn, openIn, totalsIn, entryAtE, closedIn, entriesIn}
 use Rattle.meaning.specs.Meaning.{onEarlierE, underThisE, judgeAt}

@@ -25,7 +25,7 @@ use Rattle.record.specs.Place.{endTest, end-parts}
 use Rattle.record.specs.declared.said.Said.{Said}
 use Rattle.record.specs.declared.said.Said.the-variants.{OfNone}
 use Rattle.tables.specs.Pad.{pad-none}
-use Rattle.tables.specs.Room.{Room, Tables, tables, roomOf, zeroed}
+use Rattle.tables.specs.Room.{Room, Tables, roomOf, zeroed}
 use Rattle.tables.specs.Tables.{noEmployer}
 use Rattle.meaning.specs.Before.{phaseAfter, totalsIn, entriesIn}
 use Rattle.meaning.specs.FileLaws.{onto-nil, onto-cons, meaning-end, meaning-refuses, meaning-goes-on}

@@ -19,10 +19,10 @@ use Rattle.record.specs.Numbered.{refusal-numbered}
 use Rattle.record.specs.Place.{endTest}
 use Rattle.record.specs.declared.said.Said.{Said}
 use Rattle.tables.specs.Pad.{length-pad}
-use Rattle.tables.specs.Room.{Room, Tables, tables, roomOf, zeroed}
+use Rattle.tables.specs.Room.{Room, Tables, roomOf, zeroed}
 use Rattle.tables.specs.Tables.{noEmployer}
 use Rattle.meaning.specs.Before.{phaseAfter, totalsIn, entriesIn}
-use Rattle.meaning.specs.Meaning.{judgeAt, foundOn, accepted, refused, outcomeBy}
+use Rattle.meaning.specs.Meaning.{judgeAt, foundOn, accepted, outcomeBy}
 use Rattle.state.specs.Unfit.{isLeft, unfit}
 use Rattle.state.specs.UnfitLaws.{left-number, left-seventy, left-not-72, sound-fit}
 use Rattle.state.specs.Walks as walks

@@ -9,7 +9,7 @@ use Rattle.lines.specs.Lines.{Line, firstLine}
 use Rattle.record.specs.Judge.{Judged, refusal, passed, recordOn}
 use Rattle.record.specs.Among.{passed-size}
 use Rattle.record.specs.declared.said.Said.{Said}
-use Rattle.tables.specs.Room.{Room, Tables, tables, roomOf}
+use Rattle.tables.specs.Room.{Room, Tables, roomOf}
 use Rattle.meaning.specs.Meaning.{contextAt, onEarlierE, underThisE, judgeAt}
 use Rattle.state.specs.Walks as walks
 use Rattle.step.specs.MoveLaws.{open-allowed}

@@ -4,7 +4,6 @@ use record::said;
 use state::State;
 use step::Answer;
 use step::Change;
-use step::Reply;
 use step::line;
 use tables::ids;
 use tables::list;
@@ -13,7 +12,6 @@ ghost use Rattle.lines.specs.Lines.{firstLine};
 ghost use Rattle.tables.specs.Tables.{entriesOf};
 ghost use Rattle.tables.specs.Room.{tables as tablesOf};
 ghost use Rattle.state.specs.Walks.{walkOf};
-ghost use Rattle.step.specs.Moves.{takenIn};
 ghost use Rattle.step.specs.Steps.{idsAfter, listAfter, outOf, openStep, lineStep, endStep};
 ghost use Rattle.walk.specs.Writes.{noWrites, writesOf};
 ghost use Rattle.walk.specs.Calls.{wholeFile};
@@ -143,16 +141,6 @@ pub fn end(st: State, ids: &mut [u32], list: &mut [[u64; 3]]) -> Answer
     answer
 }
 
-// The bytes that a line took, 0 if it was refused.
-fn taken_in(reply: Reply) -> usize
-    ensures { λ r. ⌜ r ≡ takenIn reply ⌝ }
-{
-    match reply {
-        Reply::Fine(taken) => taken,
-        Reply::Refused(_) => 0,
-    }
-}
-
 // A whole file in one slice: opening, a call for each line, and the end call, also after a refusal.
 pub fn whole(held: Quarter, bytes: &[u8], ids: &mut [u32], list: &mut [[u64; 3]]) -> Answer
     ensures { λ r. ⌜ outOf r (tablesOf (now (ids .exit)) (entriesOf (now (list .exit)))) ≡ wholeFile held (now (bytes .entry)) (tablesOf (now (ids .entry)) (entriesOf (now (list .entry)))) ⌝ }
@@ -164,7 +152,7 @@ pub fn whole(held: Quarter, bytes: &[u8], ids: &mut [u32], list: &mut [[u64; 3]]
         let a = line(st, &bytes[at..], ids, list);
         let reply = a.reply;
         let next = a.state;
-        let taken = taken_in(reply);
+        let taken = step::taken_in(reply);
         if taken == 0 {
             return end(next, ids, list);
         }

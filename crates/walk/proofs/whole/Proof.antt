@@ -11,7 +11,7 @@ use Rattle.tables.specs.Tables.{entriesOf}
 use Rattle.walk.proofs.end.Reads as end-reads
 use Rattle.walk.proofs.line.Reads as line-reads
 use Rattle.walk.proofs.open.Reads as open-reads
-use Rattle.walk.proofs.taken_in.Reads as taken-in-reads
+use Rattle.step.proofs.taken_in.Reads as taken-in-reads
 use Rattle.walk.proofs.whole.Statement.{statement}
 use Rattle.walk.proofs.whole.Tie as tie
 use Rattle.walk.specs.Calls.{calls}
