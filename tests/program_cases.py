@@ -5,8 +5,8 @@
     tests/program_cases.py --seed N    a fixed seed, and N
     tests/program_cases.py --all-bytes every byte value at every place of a small file, instead
 
-Files go through the program `batch` in reads of many sizes, call scripts through `calls`, and some files through `acknowledge` itself. It needs cargo, and
-the programs: `rt check acknowledge batch calls` builds them.
+Files go through the program `batch` in reads of many sizes, some of them through `acknowledge` itself, and scripts of calls through the C program
+tests/c/calls.c over the exports. It needs cargo, and the programs: `rt check acknowledge batch` builds them; library and C program are built here.
 """
 import os
 import random
@@ -14,6 +14,8 @@ import socket
 import subprocess
 import sys
 import tempfile
+
+import c_programs
 
 ROOT = os.path.dirname(os.path.dirname(os.path.abspath(__file__)))
 REFERENCE = os.path.join(ROOT, "tests", "reference-rs")
@@ -24,7 +26,7 @@ FIXED_SEED = 1
 FIXED_CASES, DRAWN_CASES = 20000, 4000
 # A file that breaks 61 has more than 100,000 lines, so there are few of them and they are piped.
 LONG_CASES = 40
-SCRIPT_CALLS = 6000
+SCRIPT_CALLS = 9000
 # Two files each.
 PAIRS = 3000
 # How many of the first cases of each seed go through the program `acknowledge` as well, and how many long files.
@@ -125,13 +127,14 @@ def pairs(seed):
 
 
 def through_calls(seed):
+    calls = c_programs.program("tests", "c", "calls.c")
     with tempfile.TemporaryDirectory() as folder:
         script, expected = os.path.join(folder, "script"), os.path.join(folder, "told")
         done = subprocess.run(reference("scripts", seed, SCRIPT_CALLS, script, expected), stdout=subprocess.PIPE, text=True)
         if done.returncode != 0:
             fail("the reference: scripts %s" % seed)
         with open(script, "rb") as commands:
-            got = subprocess.run(program("calls"), stdin=commands, stdout=subprocess.PIPE).stdout
+            got = subprocess.run(calls, stdin=commands, stdout=subprocess.PIPE).stdout
         with open(expected, "rb") as told:
             compare("calls of seed %s" % seed, got.splitlines(), told.read().splitlines())
     if seed == FIXED_SEED:

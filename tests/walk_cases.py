@@ -1,26 +1,29 @@
 #!/usr/bin/env python3
-"""The stored script of the program `calls`: calls of the walk, one after the other, and what the reference says of each.
+"""The stored script of the program tests/c/calls.c: calls of the exports, one after the other, and what the reference says of each.
 
-    tests/walk_cases.py                 compare crates/calls/stdin and stdout with what is made here, and the reference with results found by hand
+    tests/walk_cases.py                 compare tests/c/calls.script and calls.told with what is made here, and the reference with results found by hand
     tests/walk_cases.py --write         write them
     tests/walk_cases.py --seed N FILE   write a script of other calls to FILE, and their answers to FILE.told
 
-The script keeps a state, an id table of 40 numbers and an employer list of 12 entries from command to command; crates/calls/src/main.rt says what a
-command is. What the program prints is worked out from the script itself, so that both read the same bytes.
+The script keeps the words of a state, an id table of 40 numbers and an employer list of 12 entries from command to command; tests/c/calls.c says what
+a command is. What the program prints is worked out from the script itself, so that both read the same bytes.
 """
 import os
 import random
 import sys
 
+import export_reference as exports
 import record_cases as records
 import walk_reference as walk
-from walk_reference import ACCEPTED, AFTER_A, AFTER_F, AFTER_T, BEFORE_A, E_OPEN, MOST_WAGES, NO_ENTRY, REFUSED, State
+from walk_reference import ACCEPTED, AFTER_A, AFTER_F, AFTER_T, BEFORE_A, E_OPEN, MOST_WAGES, NO_ENTRY, REFUSED, Reply, State
 
-# the program's buffer
-ROOM = 65536
+# the script's length
+ROOM = 150000
 IDS, ENTRIES = 40, 12
 LONG = 65540
-# the numbers that the program can put into a refused state; another is read as the last
+# what is told for a word of the answer that is not lent
+UNTOLD = 999
+# the numbers that S can put into a refused state; another is read as the last
 NUMBERS = (1, 44, 63, 70, 71, 72, 80, 83)
 # the digit columns of each command, by their widths, in order from the second character on
 STATE = (("stage", 1), ("number", 2), ("line", 10), ("column", 5), ("lines", 10), ("held_year", 5), ("held_month", 2), ("filed_year", 5),
@@ -29,18 +32,20 @@ QUARTER_LENT = (("year", 5), ("month", 2), ("ids", 2), ("entries", 2))
 LENT = (("ids", 2), ("entries", 2))
 COMMANDS = {
     "O": QUARTER_LENT, "L": LENT, "E": LENT, "W": QUARTER_LENT, "S": STATE, "X": (("more", 1),),
-    "T": (("at", 2), ("id", 10), ("place", 2), ("fein", 10), ("count", 10), ("cents", 19)),
+    "T": (("at", 2), ("id", 10), ("place", 2), ("fein", 10), ("count", 10), ("cents", 19)), "N": (("at", 2), ("number", 20)),
+    "K": (("words", 2), ("answer", 1)), "F": (("entries", 2), ("length", 3)), "RT": (("length", 3),), "RF": (("length", 3),),
 }
 
 
 # What the program does with a script.
 
 def parsed(command):
-    given, at = {}, 1
-    for name, width in COMMANDS[command[0]]:
+    letter = command[:2] if command[0] == "R" else command[0]
+    given, at = {}, len(letter)
+    for name, width in COMMANDS[letter]:
         given[name] = int(command[at:at + width])
         at += width
-    return command[0], given, command[at + 1:]
+    return letter, given, command[at + 1:]
 
 
 def state_in(g):
@@ -52,10 +57,8 @@ def state_in(g):
         used=g["used"], number=number if refused else 0, line=g["line"] if refused else 0, column=g["column"] if refused else 0)
 
 
-def told(reply, st):
-    numbers = (st.stage, st.number, st.line, st.column, st.lines, *st.held, *st.filed, st.fein, st.follow, st.count, st.sum, st.all_count,
-               st.employers, st.all_sum, st.used)
-    return "%d %d %d %d |" % reply + "".join("%d " % n for n in numbers)
+def told_numbers(numbers):
+    return "".join("%d " % n for n in numbers)
 
 
 def trimmed(items, rest):
@@ -74,16 +77,39 @@ def told_entries(entries):
 
 class Program:
     def __init__(self):
-        self.st = State()
+        self.words = exports.words_of(State())
         self.ids = [0] * IDS
         self.entries = [NO_ENTRY] * ENTRIES
+        self.words_lent, self.answer_lent = exports.WORDS, 4
+
+    @property
+    def st(self):
+        return exports.state_in(self.words)
+
+    def answered(self, reply):
+        """The answer's words as far as they are lent; the number is returned as well."""
+        return told_numbers([n if k < max(self.answer_lent, 1) else UNTOLD for k, n in enumerate(reply)])
+
+    def told(self, reply, words):
+        return self.answered(reply) + "|" + told_numbers(words)
+
+    def called(self, words, call):
+        """The reply of a call over these words, which stay after 71 and 72, and the words that it leaves."""
+        st, reply = call(exports.state_in(words[:self.words_lent]))
+        return reply, words if reply.number in (71, 72) else exports.words_of(st)
 
     def lend(self, given, call):
         n, m = min(given["ids"], IDS), min(given["entries"], ENTRIES)
         ids, entries = self.ids[:n], self.entries[:m]
-        self.st, reply = call(ids, entries)
+        reply, self.words = self.called(self.words, lambda st: call(st, ids, entries))
         self.ids[:n], self.entries[:m] = ids, entries
-        return told(reply, self.st) + told_ids(self.ids) + told_entries(self.entries) + "\n"
+        return self.told(reply, self.words) + told_ids(self.ids) + told_entries(self.entries) + "\n"
+
+    def opening(self, given, call):
+        """A call that needs room for a state: else 72, and nothing is touched."""
+        if self.words_lent < exports.WORDS:
+            return self.lend(given, lambda st, ids, entries: (st, Reply(72)))
+        return self.lend(given, lambda st, ids, entries: call((given["year"], given["month"]), ids, entries))
 
     def alter(self, g):
         if g["at"] < IDS:
@@ -93,24 +119,47 @@ class Program:
 
     def beyond(self, more, data):
         ids, entries = [0] * IDS, [(7, 8, 9)] * LONG
-        st, reply = walk.line_call(self.st._replace(employers=65535 + min(more, 2)), data, ids, entries)
-        return told(reply, st) + told_entries(entries[65534:]) + "\n"
+        words = list(self.words)
+        words[exports.EMPLOYERS] = 65535 + min(more, 2)
+        reply, words = self.called(words, lambda st: walk.line_call(st, data, ids, entries))
+        return self.told(reply, words) + told_entries(entries[65534:]) + "\n"
+
+    def record(self, letter, length):
+        number, written = exports.write_call(letter, exports.state_in(self.words[:self.words_lent]), length)
+        return "".join(self.answered((number, 0, 0))) + "|" + (written or "." * length) + "\n"
+
+    def frames(self, entries, length):
+        reply, buffer = exports.frames_call(exports.state_in(self.words[:self.words_lent]), self.entries[:entries], "." * length)
+        return self.answered(reply) + "|" + buffer.replace("\n", "/") + "\n"
+
+    def call(self, letter, g, data):
+        """What a call prints; None where the command is none."""
+        if letter == "O":
+            return self.opening(g, walk.open_walk)
+        if letter == "W":
+            return self.opening(g, lambda held, ids, entries: walk.whole_call(held, data, ids, entries))
+        if letter == "L":
+            return self.lend(g, lambda st, ids, entries: walk.line_call(st, data, ids, entries))
+        if letter == "E":
+            return self.lend(g, walk.end_call)
+        if letter == "X":
+            return self.beyond(g["more"], data)
+        if letter == "F":
+            return self.frames(g["entries"], g["length"])
+        return self.record(letter[1], g["length"]) if letter[0] == "R" else None
 
     def run(self, command):
         """What a command prints."""
         letter, g, data = parsed(command)
-        if letter == "O":
-            return self.lend(g, lambda ids, entries: walk.open_walk((g["year"], g["month"]), ids, entries))
-        if letter == "L":
-            return self.lend(g, lambda ids, entries: walk.line_call(self.st, data, ids, entries))
-        if letter == "E":
-            return self.lend(g, lambda ids, entries: walk.end_call(self.st, ids, entries))
-        if letter == "W":
-            return self.lend(g, lambda ids, entries: walk.whole_call((g["year"], g["month"]), data, ids, entries))
-        if letter == "X":
-            return self.beyond(g["more"], data)
+        told = self.call(letter, g, data)
+        if told is not None:
+            return told
         if letter == "S":
-            self.st = state_in(g)
+            self.words = exports.words_of(state_in(g))
+        elif letter == "N":
+            self.words = [g["number"] if k == g["at"] else n for k, n in enumerate(self.words)]
+        elif letter == "K":
+            self.words_lent, self.answer_lent = g["words"], g["answer"]
         else:
             self.alter(g)
         return ""
@@ -163,6 +212,18 @@ class Script:
 
     def table(self, at, identity, place, entry):
         self.add("T", at=at, id=identity, place=place, fein=entry[0], count=entry[1], cents=entry[2])
+
+    def word(self, at, number):
+        self.add("N", at=at, number=number)
+
+    def lending(self, words=exports.WORDS, answer=4):
+        self.add("K", words=words, answer=answer)
+
+    def record(self, letter, length=290):
+        self.add("R" + letter, length=length)
+
+    def frames(self, entries, length):
+        self.add("F", entries=entries, length=length)
 
     def state(self, st):
         names = dict(st._asdict(), held_year=st.held[0], held_month=st.held[1], filed_year=st.filed[0], filed_month=st.filed[1])
@@ -476,7 +537,102 @@ def beyond(w):
     w.beyond(1, "")
 
 
-HAND = (accepted, in_one_slice, line_ends, afterwards, ends, bounds, no_bounds, room, totals, at_the_bounds, altered, other_lengths, beyond)
+MOST = 2**64 - 1
+
+
+def no_walks(w):
+    """Words that tell no walk: a standing above 6, numbers that are not listed. Every call answers 72, and every word stays."""
+    w.lent = (2, 3)
+    for stage, at, numbers in ((E_OPEN, 0, (7, 256, 2**32, 2**32 + 2, MOST)), (REFUSED, 1, (0, 9, 21, 29, 64, 73, 84, 87, 88, 300, 2**32 + 44, MOST))):
+        for number in numbers:
+            content(w)
+            w.state(standing(stage))
+            w.word(at, number)
+            w.lines(t_record(1, 100))
+            w.end()
+            w.record("T")
+            w.frames(3, 70)
+
+
+def odd_words(w):
+    """Words that a call reads as others: flags above 1, a line and a column that are too large; a refusal's words where there is none."""
+    w.lent = (2, 3)
+    for flag in (0, 1, 2, 256, 2**32, MOST):
+        for count, line in ((1, s_record(222222222, 1)), (0, t_record(0, 0))):
+            w.state(standing(E_OPEN, count=count, sum=count))
+            w.word(10, flag)
+            w.record("T")
+            w.lines(line)
+    for at, number in ((2, 2**32 - 1), (2, 2**32), (2, MOST), (3, 65535), (3, 65536), (4, 2**32), (5, 2**32 + 2026), (14, 2**32), (16, 2**32 + 1)):
+        w.state(standing(REFUSED))
+        w.word(at, number)
+        w.frames(2, 17)
+        w.end()
+    for stage in (BEFORE_A, E_OPEN, ACCEPTED):
+        w.state(standing(stage))
+        for at in (1, 2, 3):
+            w.word(at, 99)
+        w.lines(a_record() if stage == BEFORE_A else s_record(0, 1))
+        w.end()
+
+
+def lent_short(w):
+    """Fewer words of state than 17, and more; fewer words of the answer, and more; for every call."""
+    w.lent = (2, 2)
+    good = joined(a_record(), e_record(5), s_record(111111111, 7, 5), t_record(1, 7, 5), f_record(1, 1, 7))
+    for words, answer in ((0, 0), (1, 1), (5, 2), (16, 3), (16, 4), (17, 0), (17, 1), (17, 2), (17, 3), (18, 4), (20, 6)):
+        w.lending(words, answer)
+        content(w)
+        w.state(standing(E_OPEN))
+        w.record("T")
+        w.lines(s_record(222222222, 1))
+        w.end()
+        w.frames(1, 17)
+        content(w)
+        w.open(HELD)
+        w.open((2026, 5))
+        w.whole(HELD, good)
+        w.frames(2, 70)
+    w.lending()
+
+
+def frames(w):
+    """Frames in each phase, with buffers of all lengths; of an altered list."""
+    content(w)
+    for stage in (BEFORE_A, AFTER_A, E_OPEN, AFTER_T, AFTER_F, ACCEPTED, REFUSED):
+        w.state(standing(stage))
+        for entries, length in ((0, 70), (1, 0), (1, 16), (1, 17), (1, 69), (1, 70), (2, 71)):
+            w.frames(entries, length)
+    w.table(0, 0, 1, (9999999999, 2**32 + 8, 9999999999999999999))
+    w.state(standing(ACCEPTED, employers=2, all_count=100000, all_sum=100000 * MOST_WAGES, used=9999999999))
+    w.frames(2, 105)
+    w.state(standing(ACCEPTED, employers=0, all_count=0, all_sum=0))
+    w.frames(0, 35)
+    w.frames(0, 34)
+
+
+def written(w):
+    """T and F written in each phase, into slices of all lengths, and then read."""
+    w.lent = (2, 3)
+    for stage in (BEFORE_A, AFTER_A, E_OPEN, AFTER_T, AFTER_F, ACCEPTED, REFUSED):
+        w.state(standing(stage))
+        for letter in "TF":
+            w.record(letter)
+            w.record(letter, 289)
+    for changes in (dict(sum=10**14, count=2), dict(sum=10**14 - 1, count=2), dict(count=0, sum=0), dict(count=0, sum=0, follow=0), dict(used=41),
+                    dict(employers=65537)):
+        w.state(standing(E_OPEN, **changes))
+        w.record("T")
+    for changes in (dict(all_count=11, all_sum=10**15), dict(all_count=11, all_sum=10**15 - 1), dict(employers=65536)):
+        w.state(standing(AFTER_T, **changes))
+        w.record("F")
+    for stage, letter in ((E_OPEN, "T"), (AFTER_T, "F")):
+        w.state(standing(stage))
+        w.lines(exports.write_call(letter, w.program.st, 290)[1])
+
+
+HAND = (accepted, in_one_slice, line_ends, afterwards, ends, bounds, no_bounds, room, totals, at_the_bounds, altered, other_lengths, beyond, no_walks,
+        odd_words, lent_short, frames, written)
 
 
 # Calls by chance.
@@ -528,6 +684,17 @@ def chance_state(st, pick):
     return st if st.number in NUMBERS else st._replace(number=NUMBERS[0])
 
 
+def chance_word(words, pick):
+    at = pick.randrange(exports.WORDS)
+    return at, pick.choice((words[at] ^ 1, (words[at] + 2**32) % 2**64, pick.getrandbits(64), pick.randrange(8), MOST))
+
+
+def can_be_told(st):
+    """Whether the columns of S hold a state's numbers."""
+    return st.held < (100000, 0) and st.filed < (100000, 0) and max(st.held[1], st.filed[1]) < 100 and max(
+        st.fein, st.count, st.all_count, st.employers, st.used) < 10**10 and max(st.sum, st.all_sum) < 10**19
+
+
 def chance_lent(pick):
     return (pick.choice((0, 1, 2, 3, 4, 40)), pick.choice((0, 1, 2, 3, 12)))
 
@@ -540,11 +707,15 @@ def chance_walk(w, pick):
         way = pick.random()
         if way < 0.04:
             w.lent = chance_lent(pick)
-        elif way < 0.09:
-            w.state(chance_state(st, pick))
-        elif way < 0.13:
+        elif way < 0.07:
+            w.word(*chance_word(w.program.words, pick))
+        elif way < 0.11:
+            w.state(chance_state(st if can_be_told(st) else standing(E_OPEN), pick))
+        elif way < 0.12:
+            w.frames(pick.randrange(4), pick.choice((17, 70, 105)))
+        elif way < 0.15:
             w.table(pick.randrange(5), pick.choice((0, 111111111, 222222222, 4294967295)), pick.randrange(4), pick.choice(((0, 0, 0), (5, 1, 2), (FEIN, 3, 4))))
-        elif way < 0.16 or (st.stage == AFTER_F and way < 0.8):
+        elif way < 0.18 or (st.stage == AFTER_F and way < 0.8):
             w.end()
         elif st.stage >= ACCEPTED:
             w.line(pick.choice(("", "A\n")))
@@ -653,6 +824,37 @@ def rules_by_hand():
     )
 
 
+def called(words, *commands):
+    """What the program prints of calls over these words of state."""
+    program = Program()
+    program.words = list(words)
+    return [program.run(command) for command in commands]
+
+
+def exports_by_hand():
+    """The same for what only the exports have: words, frames, and what is lent short."""
+    opened = exports.words_of(State(held=HELD))
+    refused_52 = [6, 52, 3, 2] + [0] * 13
+    accepted_state = [5, 0, 0, 0, 6, *HELD, *QUARTER, 0, 0, 0, 0, 2, 1, 123500, 0]
+    told_52 = "52 3 2 0 |6 52 3 2 0 0 0 0 0 0 0 0 0 0 0 0 0 ||\n"
+    entry = "T400000000000" + "00" + "0012345678" + "0000000002" + "0000000000000123500"
+    frames = "0100BC614E00000002000000000001E26C/000000000200000001000000000001E26C/"
+    return (
+        ("words of a state that was opened", opened, [0, 0, 0, 0, 0, 2026, 6] + [0] * 10),
+        ("the words tell it again", exports.state_in(opened), State(held=HELD)),
+        ("a standing of 7, words lent short", called([7] + opened[1:], "E0101", "K160", "F01070", "O02026060101"),
+         ["72 0 0 0 |7 0 0 0 0 2026 6 0 0 0 0 0 0 0 0 0 0 ||\n", "", "72 999 999 999 |" + "." * 70 + "\n",
+          "72 999 999 999 |7 0 0 0 0 2026 6 0 0 0 0 0 0 0 0 0 0 ||\n"]),
+        ("a number that is not listed", called([6, 9, 3, 2] + [0] * 13, "E0101"), ["72 0 0 0 |6 9 3 2 0 0 0 0 0 0 0 0 0 0 0 0 0 ||\n"]),
+        ("a line that is too large", called([6, 52, 2**32 + 3, 2] + [0] * 13, "E0101")[0][:21], "52 4294967295 2 0 |6 "),
+        ("the paper's second frame", called(refused_52, "E0000", "F00017", "F00016"),
+         [told_52, "0 0 0 17 |FF34000000030002/\n", "88 0 0 0 |" + "." * 16 + "\n"]),
+        ("the paper's first frames", called(accepted_state, entry, "F01072", "F01069", "F00070"),
+         ["", "0 0 0 70 |" + frames + "..\n", "88 0 0 0 |" + "." * 69 + "\n", "72 0 0 0 |" + "." * 70 + "\n"]),
+        ("frames before the end", called(opened, "F01003"), ["87 0 0 0 |...\n"]),
+    )
+
+
 def file_of(data, pick):
     """The calls of the paper over a file: each lent all that remains, or at least 292 bytes of it."""
     ids, entries = [9] * 3, [(9, 9, 9)] * 2
@@ -717,7 +919,7 @@ def compare(paths, texts):
     for path, text in zip(paths, texts):
         with open(path, encoding="latin-1", newline="") as f:
             results.append(check(os.path.relpath(path, records.ROOT) + " is what the reference says of %d calls" % texts[1].count("\n"), f.read() == text))
-    for label, said, right in files_by_hand() + rules_by_hand():
+    for label, said, right in files_by_hand() + rules_by_hand() + exports_by_hand():
         results.append(check("by hand: " + label, said == right))
     wrong, taken = against_itself()
     results.append(check("2000 files in one slice and by calls, %d of them accepted%s" % (taken, "".join("; " + w for w in wrong[:3])), not wrong and taken))
@@ -732,7 +934,7 @@ def main():
             records.write(path + end, text)
         return 0
     texts = made(290, HAND)
-    paths = [os.path.join(records.ROOT, "crates", "calls", n) for n in ("stdin", "stdout")]
+    paths = [os.path.join(records.ROOT, "tests", "c", n) for n in ("calls.script", "calls.told")]
     if "--write" in sys.argv:
         for path, text in zip(paths, texts):
             records.write(path, text)

@@ -1,21 +1,29 @@
 -- The steps of the loop over the lines of a turn.
-use Prim.Native.Nat.{ℕ, zero, suc, _+_, _-_, _≤_, _<_}
-use mathlib.Core.Bool.{Bool, true, false, _||_}
+use Prim.Native.Nat.{ℕ, zero, suc, _+_, _-_, _≤_, _<_, min}
+use mathlib.Core.Bool.{Bool, true, false, _&&_, _||_}
 use mathlib.Core.List.{List, [], _∷_}
 use mathlib.Core.Path.{_≡_, refl, sym, ap, _∙_}
+use native.Mathlib.Nat.{le-refl}
 use native.Mathlib.Omega.{arith}
-use lib.Dec.{eqb, leb}
-use lib.ListN.{length, take, drop, length-drop, drop-of-length-le}
-use lib.Seq.{take-all, drop-drop}
-use borrow.Author.Tests.{eq-eqb, ne-eqb, eqb-false}
-use Rattle.laws.specs.Choice.{if_then_else_}
+use lib.Dec.{eqb, ltb, leb}
+use lib.ListN.{length, drop, length-drop, drop-of-length-le}
+use lib.Seq.{drop-drop, drop-length}
+use borrow.Author.Tests.{ltb-true, ltb-false, eqb-false}
+use Rattle.laws.specs.Choice.{if_then_else_, both-hold}
 use Rattle.laws.specs.Lists.{behind}
 use Rattle.lines.specs.Lines.{firstLine}
 use Rattle.tables.specs.Room.{Tables}
-use Rattle.state.specs.Walks.{Walk}
-use Rattle.step.specs.Steps.{Out, lineStep, endStep}
-use Rattle.walk.specs.WholeLaws.{taken-within}
+use Rattle.tables.specs.Steps.{drop-least}
+use Rattle.state.specs.Walks.{Walk, walkOf}
+use Rattle.state.specs.declared.State.{State}
+use Rattle.step.specs.Steps.{Out, outOf, lineStep, endStep}
+use Rattle.step.specs.declared.Answer.{Answer}
+use Rattle.ack.specs.Answers.{turnedBy}
+use Rattle.ack.specs.Places.{takesLine, placeBehind}
 use Rattle.ack.specs.Turns.{Turn, ends, goesOn, linesTurn}
+use Rattle.ack.specs.declared.Place.{Place}
+use Rattle.ack.specs.declared.Progress.the-variants.{Walking, Finished}
+use Rattle.ack.specs.declared.Turned.{Turned}
 
 module _ (ended : Bool) where
   -- Bytes that belong to the line taken last are passed over.
@@ -25,7 +33,7 @@ module _ (ended : Bool) where
   skipped (suc skip) [] walk t = refl
   skipped (suc skip) (b ∷ s) walk t = skipped skip s walk t
 
-  pub turn-none : (walk : Walk) (t : Tables) → linesTurn ended 0 [] walk t ≡ (if ended then ends (endStep walk t) else goesOn walk t [])
+  turn-none : (walk : Walk) (t : Tables) → linesTurn ended 0 [] walk t ≡ (if ended then ends (endStep walk t) else goesOn walk t [])
   unfolding linesTurn
   turn-none walk t = refl
 
@@ -56,32 +64,58 @@ module _ (ended : Bool) where
   turn-line [] h e walk t o same = absurd (omega arith)
   turn-line (b ∷ s) h e walk t o same = rw e (ap (next s) (sym same) ∙ next-drops b s o)
 
--- ---- the loop: `held` are the bytes of the turn, `at` those taken so far
-rest : (at : ℕ) (s : List ℕ) → take (length s - at) (drop at s) ≡ drop at s
-rest at s = take-all (length s - at) (drop at s) (simp length-drop (omega arith))
+-- ---- the loop: `held` are the bytes of the turn, taken up to a place
+abbrev pub turnFrom : List ℕ → Place → Walk → Tables → Turn
+turnFrom held here walk t = linesTurn (here .last) 0 (drop (here .at) held) walk t
 
-module _ (ended : Bool) (held : List ℕ) (at : ℕ) (walk : Walk) (t : Tables) where
-  pub loop-none : length held ≤ at → linesTurn ended 0 (drop at held) walk t ≡ (if ended then ends (endStep walk t) else goesOn walk t [])
-  loop-none h = ap (λ (s : List ℕ). linesTurn ended 0 s walk t) (drop-of-length-le held {i = at} h) ∙ turn-none ended walk t
+-- Where no byte is left.
+turn-over : (last : Bool) (held : List ℕ) (at : ℕ) → length held ≤ at → (walk : Walk) (t : Tables) → linesTurn last 0 (drop at held) walk t ≡ (if last then ends (endStep walk t) else goesOn walk t [])
+turn-over last held at h walk t = ap (λ (s : List ℕ). linesTurn last 0 s walk t) (drop-of-length-le held {i = at} h) ∙ turn-none last walk t
 
-  pub loop-stays : at < length held → ended || leb 292 (length held - at) ≡ false → linesTurn ended 0 (drop at held) walk t ≡ goesOn walk t (drop at held)
-  loop-stays h e = turn-stays ended (drop at held) (simp length-drop (omega arith)) (rw (length-drop at held) e) walk t
+module _ (held : List ℕ) (here : Place) (walk : Walk) (t : Tables) where
+  some-left : here .at < length held → 0 < length (drop (here .at) held)
+  some-left h = simp length-drop (omega arith)
 
-  module _ (o : Out) (h : at < length held) (e : ended || leb 292 (length held - at) ≡ true)
-      (same : o ≡ lineStep walk (firstLine (take (length held - at) (drop at held))) t) where
-    from-here : o ≡ lineStep walk (firstLine (drop at held)) t
-    from-here = same ∙ ap (λ (s : List ℕ). lineStep walk (firstLine s) t) (rest at held)
+  -- The loop stops at the end of the bytes, if behind them comes the end call,
+  pub loop-ends : takesLine here (length held) ≡ false → here .last ≡ true → turnFrom held here walk t ≡ ends (endStep walk t)
+  loop-ends e last = turn-over (here .last) held (here .at) (ltb-false (here .at) (length held) (over (ltb (here .at) (length held)) e)) walk t ∙ rw last where
+    over : (more : Bool) → more && (here .last || leb 292 (length held - here .at)) ≡ false → more ≡ false
+    over true none = rw last at none
+    over false none = refl
 
-    opens : linesTurn ended 0 (drop at held) walk t ≡ (if eqb (o .taken) 0 then ends (endStep (o .walk) (o .left)) else linesTurn ended 0 (drop (o .taken) (drop at held)) (o .walk) (o .left))
-    opens = turn-line ended (drop at held) (simp length-drop (omega arith)) (rw (length-drop at held) e) walk t o from-here
+  -- or else where a line is not whole yet.
+  pub loop-stays : takesLine here (length held) ≡ false → here .last ≡ false → turnFrom held here walk t ≡ goesOn walk t (drop (here .at) held)
+  loop-stays e last = go (ltb (here .at) (length held)) refl where
+    go : (more : Bool) → ltb (here .at) (length held) ≡ more → turnFrom held here walk t ≡ goesOn walk t (drop (here .at) held)
+    go true is = turn-stays (here .last) (drop (here .at) held) (some-left (ltb-true (here .at) (length held) is)) (rw (length-drop (here .at) held) (rw is at e)) walk t
+    go false is =
+        let h = ltb-false (here .at) (length held) is in
+        turn-over (here .last) held (here .at) h walk t ∙ rw (last, drop-of-length-le held {i = here .at} h)
 
-    pub loop-refused : o .taken ≡ 0 → linesTurn ended 0 (drop at held) walk t ≡ ends (endStep (o .walk) (o .left))
-    loop-refused none = opens ∙ rw (eq-eqb (o .taken) 0 none)
+  taking : takesLine here (length held) ≡ true → (ltb (here .at) (length held) ≡ true) × (here .last || leb 292 (length held - here .at) ≡ true)
+  taking e = both-hold (ltb (here .at) (length held)) (here .last || leb 292 (length held - here .at)) e
 
-    pub loop-within : at + o .taken ≤ length held
-    loop-within =
-        let taken : o .taken ≤ length (drop at held) = rw from-here (taken-within walk t (drop at held)) in
-        omega (arith, rw length-drop at taken)
+  pub takes-within : takesLine here (length held) ≡ true → here .at < length held
+  takes-within e = ltb-true (here .at) (length held) (taking e .0)
 
-    pub loop-taken : (o .taken ≡ 0 → ⊥) → linesTurn ended 0 (drop at held) walk t ≡ linesTurn ended 0 (drop (at + o .taken) held) (o .walk) (o .left)
-    loop-taken some = opens ∙ rw (ne-eqb (o .taken) 0 some) (ap (λ (s : List ℕ). linesTurn ended 0 s (o .walk) (o .left)) (drop-drop (o .taken) at held))
+  -- A line goes on from behind it.
+  module _ (o : Out) (e : takesLine here (length held) ≡ true) (same : o ≡ lineStep walk (firstLine (drop (here .at) held)) t) where
+    takes : turnFrom held here walk t ≡ (if eqb (o .taken) 0 then ends (endStep (o .walk) (o .left)) else linesTurn (here .last) 0 (drop (o .taken) (drop (here .at) held)) (o .walk) (o .left))
+    takes = turn-line (here .last) (drop (here .at) held) (some-left (takes-within e)) (rw (length-drop (here .at) held) (taking e .1)) walk t o same
+
+    pub loop-next : turnFrom held here walk t ≡ turnFrom held (placeBehind here (o .taken) (length held)) (o .walk) (o .left)
+    loop-next = takes ∙ go (eqb (o .taken) 0) where
+      go : (none : Bool)
+          → (if none then ends (endStep (o .walk) (o .left)) else linesTurn (here .last) 0 (drop (o .taken) (drop (here .at) held)) (o .walk) (o .left))
+          ≡ linesTurn (none || here .last) 0 (drop (if none then length held else (here .at + o .taken)) held) (o .walk) (o .left)
+      go true = sym (turn-over true held (length held) (le-refl (length held)) (o .walk) (o .left))
+      go false = ap (λ (s : List ℕ). linesTurn (here .last) 0 s (o .walk) (o .left)) (drop-drop (o .taken) (here .at) held)
+
+-- ---- what the code then answers
+module _ (answer : Turned) (held : List ℕ) where
+  pub turned-ends : (a : Answer) (walk : Walk) (t t′ : Tables) → answer ≡ record { progress = Finished (a .state); taken = length held } → outOf a t′ ≡ endStep walk t
+      → (turnedBy answer held t′ ≡ ends (endStep walk t)) × (answer .taken ≤ length held)
+  turned-ends a walk t t′ is said = rw is (rw (drop-length held) (ap ends said), le-refl (length held))
+
+  pub turned-stays : (st : State) (at : ℕ) (t : Tables) → answer ≡ record { progress = Walking st; taken = min at (length held) } → (turnedBy answer held t ≡ goesOn (walkOf st) t (drop at held)) × (answer .taken ≤ length held)
+  turned-stays st at t is = rw is (ap (goesOn (walkOf st) t) (drop-least at held), omega arith)

@@ -2,17 +2,21 @@
 use calendar::Quarter;
 use number::Number;
 use state::State;
-ghost use Prim.Native.Nat.{_≤_, min};
+use step::Reply;
+use tables::Employer;
+ghost use Prim.Native.Nat.{_+_, _≤_, min};
 ghost use mathlib.Core.Bool.{_||_};
 ghost use mathlib.Core.Path.{_≡_};
 ghost use lib.Dec.{leb};
 ghost use lib.ListN.{length, drop};
-ghost use Rattle.tables.specs.Tables.{entriesOf};
 ghost use Rattle.tables.specs.Room.{tables as tablesOf};
 ghost use Rattle.state.specs.Walks.{walkOf};
-ghost use Rattle.step.specs.Steps.{endStep};
-ghost use Rattle.ack.specs.Turns.{headerQuarter, ends, linesTurn, headerTurn, turn as turnOf};
+ghost use Rattle.step.specs.Moves.{takenIn};
+ghost use Rattle.ack.specs.Turns.{headerQuarter, linesTurn, turn as turnOf};
 ghost use Rattle.ack.specs.Answers.{progressOf, turnedBy};
+ghost use Rattle.ack.specs.Starts.{starting, startingOf};
+ghost use Rattle.ack.specs.Places.{takesLine, placeBehind};
+ghost use Rattle.ack.specs.declared.Progress.the-variants.{Walking, Finished};
 ghost use Rattle.ack.specs.Keep.{kept};
 
 // Where a program stands between two reads: before the header; within the file; or finished.
@@ -48,58 +52,6 @@ pub fn header(bytes: &[u8]) -> Quarter
     }
 }
 
-// The end call, and with it the end of all turns.
-fn finish(st: State, bytes: &[u8], ids: &mut [u32], list: &mut [[u64; 3]]) -> Turned
-    ensures { λ r. ⌜ (turnedBy r (now (bytes .entry)) (tablesOf (now (ids .exit)) (entriesOf (now (list .exit)))) ≡ ends (endStep (walkOf st) (tablesOf (now (ids .entry)) (entriesOf (now (list .entry)))))) × (r .taken ≤ length (now (bytes .entry))) ⌝ }
-{
-    let a = walk::end(st, ids, list);
-    let last = a.state;
-    Turned {
-        progress: Progress::Finished(last),
-        taken: bytes.len(),
-    }
-}
-
-// Takes lines from a place on while at least 292 bytes remain, or the input has ended; then, or after a refusal, makes the end call. A place past the
-// end is the end.
-fn lines_turn(
-    opened: State,
-    bytes: &[u8],
-    from: usize,
-    ended: bool,
-    ids: &mut [u32],
-    list: &mut [[u64; 3]],
-) -> Turned
-    ensures { λ r. ⌜ (turnedBy r (now (bytes .entry)) (tablesOf (now (ids .exit)) (entriesOf (now (list .exit)))) ≡ linesTurn ended 0 (drop from (now (bytes .entry))) (walkOf opened) (tablesOf (now (ids .entry)) (entriesOf (now (list .entry))))) × (r .taken ≤ length (now (bytes .entry))) ⌝ }
-{
-    let mut st = opened;
-    let mut at = from;
-    while at < bytes.len() {
-        if !is_whole(ended, bytes.len() - at) {
-            return Turned {
-                progress: Progress::Walking(st),
-                taken: at,
-            };
-        }
-        let a = walk::line(st, &bytes[at..], ids, list);
-        let reply = a.reply;
-        let next = a.state;
-        let taken = step::taken_in(reply);
-        if taken == 0 {
-            return finish(next, bytes, ids, list);
-        }
-        st = next;
-        at += taken;
-    }
-    if ended {
-        return finish(st, bytes, ids, list);
-    }
-    Turned {
-        progress: Progress::Walking(st),
-        taken: bytes.len(),
-    }
-}
-
 // Whether a line may be taken: 292 bytes are held, or no more will come.
 fn is_whole(ended: bool, held: usize) -> bool
     ensures { λ r. ⌜ r ≡ (ended || leb 292 held) ⌝ }
@@ -119,19 +71,119 @@ fn has_header(ended: bool, held: usize) -> bool
     7 <= held
 }
 
-// The header, as soon as its bytes are held or no more will come; then the lines behind it.
-fn header_turn(bytes: &[u8], ended: bool, ids: &mut [u32], list: &mut [[u64; 3]]) -> Turned
-    ensures { λ r. ⌜ (turnedBy r (now (bytes .entry)) (tablesOf (now (ids .exit)) (entriesOf (now (list .exit)))) ≡ headerTurn ended (now (bytes .entry)) (tablesOf (now (ids .entry)) (entriesOf (now (list .entry))))) × (r .taken ≤ length (now (bytes .entry))) ⌝ }
+// A place in the bytes held. `last`: behind the lines from there on comes the end call, since no more bytes will come, or a line was refused.
+struct Place {
+    at: usize,
+    last: bool,
+}
+
+fn takes_line(here: Place, held: usize) -> bool
+    ensures { λ r. ⌜ r ≡ takesLine here held ⌝ }
 {
-    if !has_header(ended, bytes.len()) {
-        return Turned {
-            progress: Progress::Waiting,
-            taken: 0,
+    if here.at < held {
+        return is_whole(here.last, held - here.at);
+    }
+    false
+}
+
+// Behind the bytes that a line took. After a refusal no other line is taken, so that is the end.
+fn place_behind(here: Place, reply: Reply, held: usize) -> Place
+    requires { ⌜ here .at + takenIn reply ≤ held ⌝ }
+    ensures { λ r. ⌜ r ≡ placeBehind here (takenIn reply) held ⌝ }
+{
+    let taken = step::taken_in(reply);
+    if taken == 0 {
+        return Place {
+            at: held,
+            last: true,
         };
     }
-    let opened = walk::open(header(bytes), ids, list);
-    let st = opened.state;
-    lines_turn(st, bytes, 7, ended, ids, list)
+    Place {
+        at: here.at + taken,
+        last: here.last,
+    }
+}
+
+fn finished(st: State, held: usize) -> Turned
+    ensures { λ r. ⌜ r ≡ record { progress = Finished st; taken = held } ⌝ }
+{
+    Turned {
+        progress: Progress::Finished(st),
+        taken: held,
+    }
+}
+
+// A place past the end is the end.
+fn walking(st: State, at: usize, held: usize) -> Turned
+    ensures { λ r. ⌜ r ≡ record { progress = Walking st; taken = min at held } ⌝ }
+{
+    Turned {
+        progress: Progress::Walking(st),
+        taken: least(at, held),
+    }
+}
+
+// Takes lines from a place on while at least 292 bytes remain, or the input has ended; then, or after a refusal, makes the end call. A place past the
+// end is the end.
+fn lines_turn(
+    opened: State,
+    bytes: &[u8],
+    from: usize,
+    ended: bool,
+    ids: &mut [u32],
+    list: &mut [Employer],
+) -> Turned
+    ensures { λ r. ⌜ (turnedBy r (now (bytes .entry)) (tablesOf (now (ids .exit)) (now (list .exit))) ≡ linesTurn ended 0 (drop from (now (bytes .entry))) (walkOf opened) (tablesOf (now (ids .entry)) (now (list .entry)))) × (r .taken ≤ length (now (bytes .entry))) ⌝ }
+{
+    let mut st = opened;
+    let mut here = Place {
+        at: from,
+        last: ended,
+    };
+    while takes_line(here, bytes.len()) {
+        let a = walk::line_at(st, bytes, here.at, ids, list);
+        st = a.state;
+        here = place_behind(here, a.reply, bytes.len());
+    }
+    if here.last {
+        let a = walk::end(st, ids, list);
+        return finished(a.state, bytes.len());
+    }
+    walking(st, here.at, bytes.len())
+}
+
+// How a turn starts: with the header, with the lines that a state awaits, or not at all, and then with how many bytes taken.
+struct Start {
+    opens: bool,
+    walks: bool,
+    taken: usize,
+    state: State,
+}
+
+// The header is read as soon as its bytes are held, or no more will come. Where no walk is under way the state is one of no quarter, which none reads.
+fn start_of(progress: Progress, ended: bool, held: usize) -> Start
+    ensures { λ r. ⌜ startingOf r ≡ starting (progressOf progress) ended held ⌝ }
+{
+    match progress {
+        Progress::Waiting => Start {
+            opens: has_header(ended, held),
+            walks: false,
+            taken: 0,
+            state: state::opened(state::no_quarter()),
+        },
+        Progress::Walking(st) => Start {
+            opens: false,
+            walks: true,
+            taken: 0,
+            state: st,
+        },
+        Progress::Finished(st) => Start {
+            opens: false,
+            walks: false,
+            taken: held,
+            state: st,
+        },
+    }
 }
 
 // One turn on the bytes held; `ended`: no more will come.
@@ -140,17 +192,21 @@ pub fn turn(
     bytes: &[u8],
     ended: bool,
     ids: &mut [u32],
-    list: &mut [[u64; 3]],
+    list: &mut [Employer],
 ) -> Turned
-    ensures { λ r. ⌜ (turnedBy r (now (bytes .entry)) (tablesOf (now (ids .exit)) (entriesOf (now (list .exit)))) ≡ turnOf (progressOf progress) ended (now (bytes .entry)) (tablesOf (now (ids .entry)) (entriesOf (now (list .entry))))) × (r .taken ≤ length (now (bytes .entry))) ⌝ }
+    ensures { λ r. ⌜ (turnedBy r (now (bytes .entry)) (tablesOf (now (ids .exit)) (now (list .exit))) ≡ turnOf (progressOf progress) ended (now (bytes .entry)) (tablesOf (now (ids .entry)) (now (list .entry)))) × (r .taken ≤ length (now (bytes .entry))) ⌝ }
 {
-    match progress {
-        Progress::Waiting => header_turn(bytes, ended, ids, list),
-        Progress::Walking(st) => lines_turn(st, bytes, 0, ended, ids, list),
-        Progress::Finished(_) => Turned {
-            progress,
-            taken: bytes.len(),
-        },
+    let begun = start_of(progress, ended, bytes.len());
+    if begun.opens {
+        let opened = walk::open(header(bytes), ids, list);
+        return lines_turn(opened.state, bytes, 7, ended, ids, list);
+    }
+    if begun.walks {
+        return lines_turn(begun.state, bytes, 0, ended, ids, list);
+    }
+    Turned {
+        progress,
+        taken: begun.taken,
     }
 }
 

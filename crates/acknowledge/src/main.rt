@@ -1,34 +1,60 @@
 // Reads a header and a wage file from standard input and writes the acknowledgement to standard output. No rule of the paper stands here: it reads, makes
 // the turns of the library, and writes the frames. Its memory is fixed, whatever the file's size.
 use ack::Progress;
+use ack::Turned;
 use frames::Framed;
 use state::State;
-ghost use mathlib.Core.Path.{_≡_};
+use tables::Employer;
+ghost use Prim.Native.Nat.{_-_, _≤_};
 ghost use lib.ListN.{length};
 
-// What one read left in the buffer: how many bytes are held there, and whether the input goes on, has ended, or could not be read.
+// What one read left in the buffer: how many bytes are held there, and whether the input has ended or could not be read.
 struct Held {
     bytes: usize,
     ended: bool,
     failed: bool,
 }
 
+// Where the program is between two turns: how many bytes stand before the next read, how many turns are left, and how the file stands. No contract can
+// say that an input ends, so the turns are counted down; none is left when the program is done.
+struct Between {
+    have: usize,
+    turns: u64,
+    progress: Progress,
+}
+
+// Of a read that failed no byte is held, so that the turn on it changes nothing.
+fn unread() -> Held
+    ensures { λ r. ⌜ r .bytes ≤ 0 ⌝ }
+{
+    Held {
+        bytes: 0,
+        ended: false,
+        failed: true,
+    }
+}
+
 // Reads behind the bytes that are held. Without room a read would bring nothing and look like the end of the input, so that counts as failed; a turn
 // leaves less than a record over (`left-short`), so it does not happen.
-fn read_more(buf: &mut [u8], have: usize) -> Held {
+fn read_more(buf: &mut [u8], have: usize) -> Held
+    ensures { λ r. ⌜ r .bytes ≤ length (now (buf .exit)) ⌝ }
+{
     if buf.len() <= have {
-        return Held {
-            bytes: have,
-            ended: false,
-            failed: true,
-        };
+        return unread();
     }
     let got = libc::read(libc::STDIN_FILENO, &mut buf[have..]);
+    if got < 0 {
+        return unread();
+    }
     Held {
         bytes: have + io::count(got, &buf[have..]),
         ended: got == 0,
-        failed: got < 0,
+        failed: false,
     }
+}
+
+fn message(text: &[u8]) {
+    io::write_all(libc::STDERR_FILENO, text);
 }
 
 // The first n bytes, or all where there are no more.
@@ -40,6 +66,20 @@ fn front<'a>(s: &'a [u8], n: usize) -> &'a [u8] {
     s
 }
 
+fn write_frames(frames: &[u8]) {
+    if !io::write_all(libc::STDOUT_FILENO, frames) {
+        message(b"acknowledge: the answer could not be written\n");
+    }
+}
+
+// Of a finished walk the frames are always written (`program-means`); any other answer is told, and no frame comes.
+fn tell(framed: Framed, out: &[u8]) {
+    match framed {
+        Framed::Written(n) => write_frames(front(out, n)),
+        _ => message(b"acknowledge: no frames for the state at the end\n"),
+    }
+}
+
 fn is_finished(progress: Progress) -> bool {
     match progress {
         Progress::Waiting => false,
@@ -48,62 +88,90 @@ fn is_finished(progress: Progress) -> bool {
     }
 }
 
-// Reads and turns until a turn is finished, or a read fails: then the program stands where it stood before that read, which is not finished. No contract
-// can say that an input ends: the loop counts its turns down.
-fn read_all(buf: &mut [u8], ids: &mut [u32], list: &mut [[u64; 3]]) -> Progress {
-    let mut progress = Progress::Waiting;
-    let mut have: usize = 0;
-    let mut turns = u64::MAX;
-    while 0 < turns {
-        turns -= 1;
-        let held = read_more(buf, have);
-        if held.failed {
-            return progress;
-        }
-        let end = held.bytes;
-        let turned = ack::turn(progress, front(buf, end), held.ended, ids, list);
-        progress = turned.progress;
-        if is_finished(progress) {
-            return progress;
-        }
-        have = ack::keep(buf, turned.taken, end);
-    }
-    progress
-}
-
-fn message(text: &[u8]) {
-    io::write_all(libc::STDERR_FILENO, text);
-}
-
-fn write_frames(frames: &[u8]) {
-    if !io::write_all(libc::STDOUT_FILENO, frames) {
-        message(b"acknowledge: the answer could not be written\n");
+// The state that has frames once the file is finished.
+fn state_of(progress: Progress) -> State {
+    match progress {
+        Progress::Waiting => state::opened(state::no_quarter()),
+        Progress::Walking(st) => st,
+        Progress::Finished(st) => st,
     }
 }
 
-// 35 bytes for each of 1,024 employers, and 35 more.
-fn frame_buffer() -> [u8; 35875]
-    ensures { λ r. ⌜ 35875 ≡ length r ⌝ }
+fn one_less(turns: u64) -> u64
+    ensures { λ r. ⌜ r ≤ turns - 1 ⌝ }
 {
-    [0; 35875]
+    if turns == 0 {
+        return 0;
+    }
+    turns - 1
 }
 
-// Of a finished walk the frames are always written (`program-means`); any other answer is told, and no frame comes.
-fn answer(st: State, list: &[[u64; 3]]) {
-    let mut out = frame_buffer();
-    match frames::frames(st, list, &mut out) {
-        Framed::Written(n) => write_frames(front(&out, n)),
-        _ => message(b"acknowledge: no frames for the state at the end\n"),
+fn done(progress: Progress) -> Between
+    ensures { λ r. ⌜ r .turns ≤ 0 ⌝ }
+{
+    Between {
+        have: 0,
+        turns: 0,
+        progress,
     }
 }
 
+// What comes after a turn: the answer, where the file is finished; a message, where a read failed; or the bytes kept for another turn.
+fn after(
+    last: Between,
+    held: Held,
+    turned: Turned,
+    framed: Framed,
+    buf: &mut [u8],
+    out: &[u8],
+) -> Between
+    ensures { λ r. ⌜ r .turns ≤ last .turns - 1 ⌝ }
+{
+    let progress = turned.progress;
+    if held.failed {
+        message(b"acknowledge: standard input could not be read\n");
+        return done(progress);
+    }
+    if is_finished(progress) {
+        tell(framed, out);
+        return done(progress);
+    }
+    Between {
+        have: ack::keep(buf, turned.taken, held.bytes),
+        turns: one_less(last.turns),
+        progress,
+    }
+}
+
+fn start() -> Between {
+    Between {
+        have: 0,
+        turns: u64::MAX,
+        progress: Progress::Waiting,
+    }
+}
+
+// Reads, turns and frames until the file is finished or a read fails. A file that is not finished has no frames.
+fn run(buf: &mut [u8], ids: &mut [u32], list: &mut [Employer], out: &mut [u8]) {
+    let mut at = start();
+    while 0 < at.turns {
+        let held = read_more(buf, at.have);
+        let turned = ack::turn(at.progress, &buf[..held.bytes], held.ended, ids, list);
+        let framed = frames::frames(state_of(turned.progress), list, out);
+        at = after(at, held, turned, framed, buf, out);
+    }
+}
+
+// The frames take 35 bytes for each of 1,024 employers, and 35 more.
 fn main() {
-    let mut buf = io::large_buffer();
+    let mut buf = [0u8; 65536];
     let mut ids = [0u32; 8192];
-    let none = [0u64, 0, 0];
+    let none = Employer {
+        fein: 0,
+        count: 0,
+        cents: 0,
+    };
     let mut list = [none; 1024];
-    match read_all(&mut buf, &mut ids, &mut list) {
-        Progress::Finished(st) => answer(st, &list),
-        _ => message(b"acknowledge: standard input could not be read\n"),
-    }
+    let mut out = [0u8; 35875];
+    run(&mut buf, &mut ids, &mut list, &mut out);
 }

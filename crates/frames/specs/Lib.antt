@@ -3,3 +3,4 @@ pub mod Pasted
 pub mod HexLaws
 pub mod Frames
 pub mod FrameLaws
+pub mod Parts

@@ -4,19 +4,19 @@ use reason::Refusal;
 use state::Stage;
 use state::State;
 use state::fitness;
+use tables::Employer;
 use tables::list;
-ghost use Prim.Native.Nat.{_+_, _*_, _≤_, _<_, min};
-ghost use mathlib.Core.List.{_++_};
+ghost use Prim.Native.Nat.{_+_, _*_, _≤_, _<_};
 ghost use mathlib.Core.Path.{_≡_};
 ghost use lib.ListN.{length, take};
 ghost use Rattle.reason.specs.Numbers.{noticeOf};
 ghost use Rattle.tables.specs.Room.{mostEmployers};
-ghost use Rattle.tables.specs.Tables.{entriesOf};
 ghost use Rattle.state.specs.Walks.{walkOf, standingOf};
 ghost use Rattle.frames.specs.Hex.{hexDigit, hex};
 ghost use Rattle.frames.specs.Pasted.{pasted};
-ghost use Rattle.frames.specs.Frames.{employerFrames, closingFrame, refusalFrame, fitted, isAccepted, framing};
+ghost use Rattle.frames.specs.Frames.{employerFrame, employerFrames, refusalFrame, fitted, isAccepted, framing};
 ghost use Rattle.frames.specs.FrameLaws.{threeNumbers};
+ghost use Rattle.frames.specs.Parts.{acceptedSize, acceptedEmployers, acceptedLast, employersFramed, lastFraming};
 
 // The bytes written; or why none is: the state is unfit (72, which a list shorter than the employers makes it too), the walk has not ended, the
 // buffer is too small.
@@ -64,31 +64,56 @@ fn put_three_numbers(out: &mut [u8], at: usize, kind: u64, a: u64, b: u64, cents
     out[at + 34] = b'\n';
 }
 
+// An employer's frame, at its place.
+fn put_employer(out: &mut [u8], i: usize, e: Employer)
+    requires { ⌜ 35 * i + 35 ≤ length (now out) ⌝ }
+    ensures { λ _. ⌜ now (out .exit) ≡ pasted (35 * i) (employerFrame e) (now (out .entry)) ⌝ }
+{
+    put_three_numbers(out, 35 * i, 1, e.fein, e.count, e.cents);
+}
+
 // The frames of the first n employers, at the front of the buffer.
-fn put_employers(out: &mut [u8], list: &[[u64; 3]], n: usize)
+fn put_employers(out: &mut [u8], list: &[Employer], n: usize)
     requires { ⌜ (n ≤ length (now list)) × (35 * n ≤ length (now out)) ⌝ }
-    ensures { λ _. ⌜ now (out .exit) ≡ pasted 0 (employerFrames (take n (entriesOf (now (list .entry))))) (now (out .entry)) ⌝ }
+    ensures { λ _. ⌜ now (out .exit) ≡ pasted 0 (employerFrames (take n (now (list .entry)))) (now (out .entry)) ⌝ }
 {
     let mut i = 0;
     while i < n {
         let e = list::entry_at(list, i);
-        put_three_numbers(out, 35 * i, 1, e.fein, e.count, e.cents);
+        put_employer(out, i, e);
         i += 1;
     }
 }
 
-// An accepted file: a frame for each employer, then the closing one.
-fn accepted(all: Totals, list: &[[u64; 3]], out: &mut [u8]) -> Framed
-    requires { ⌜ all .employers ≤ min mostEmployers (length (now list)) ⌝ }
-    ensures { λ r. ⌜ record { answer = r; out = now (out .exit) } ≡ fitted (employerFrames (take (all .employers) (entriesOf (now (list .entry)))) ++ closingFrame all) (now (out .entry)) ⌝ }
+// The bytes of an accepted file's frames: 35 for each employer and 35 more.
+fn accepted_size(all: Totals) -> usize
+    requires { ⌜ all .employers ≤ mostEmployers ⌝ }
+    ensures { λ r. ⌜ r ≡ acceptedSize all ⌝ }
 {
-    let n = all.employers as usize;
-    let size = 35 * n + 35;
+    35 * (all.employers as usize) + 35
+}
+
+// An accepted file's employers, where a frame for each and the closing one fit.
+fn accepted_employers(all: Totals, size: usize) -> usize
+    requires { ⌜ all .employers ≤ mostEmployers ⌝ }
+    ensures { λ r. ⌜ r ≡ acceptedEmployers all size ⌝ }
+{
+    if size < accepted_size(all) {
+        return 0;
+    }
+    all.employers as usize
+}
+
+// The closing frame, behind those of the employers.
+fn accepted(all: Totals, out: &mut [u8]) -> Framed
+    requires { ⌜ all .employers ≤ mostEmployers ⌝ }
+    ensures { λ r. ⌜ record { answer = r; out = now (out .exit) } ≡ acceptedLast all (now (out .entry)) ⌝ }
+{
+    let size = accepted_size(all);
     if out.len() < size {
         return Framed::TooSmall;
     }
-    put_employers(out, list, n);
-    put_three_numbers(out, 35 * n, 0, all.count, all.employers, all.sum);
+    put_three_numbers(out, size - 35, 0, all.count, all.employers, all.sum);
     Framed::Written(size)
 }
 
@@ -119,20 +144,45 @@ fn is_accepted(stage: Stage) -> bool
     }
 }
 
-// The acknowledgement of a walk that has ended, at the front of the buffer: at most 35 bytes for each employer and 35 more.
-pub fn frames(st: State, list: &[[u64; 3]], out: &mut [u8]) -> Framed
-    ensures { λ r. ⌜ record { answer = r; out = now (out .exit) } ≡ framing (walkOf st) (entriesOf (now (list .entry))) (now (out .entry)) ⌝ }
+// How many employers have a frame: those of a walk that was accepted, where all frames fit.
+fn employers_framed(st: State, room: usize, size: usize) -> usize
+    ensures { λ r. ⌜ r ≡ employersFramed (walkOf st) room size ⌝ }
 {
-    if fitness::is_unfit(st, st.used, list.len()) {
+    if fitness::is_unfit(st, st.used, room) {
+        return 0;
+    }
+    let stage = st.stage;
+    let all = st.all;
+    if is_accepted(stage) {
+        return accepted_employers(all, size);
+    }
+    0
+}
+
+// The last frame, behind those of the employers, and the answer.
+fn last_frame(st: State, room: usize, out: &mut [u8]) -> Framed
+    ensures { λ r. ⌜ record { answer = r; out = now (out .exit) } ≡ lastFraming (walkOf st) room (now (out .entry)) ⌝ }
+{
+    if fitness::is_unfit(st, st.used, room) {
         return Framed::Unfit;
     }
     let stage = st.stage;
     let all = st.all;
     if is_accepted(stage) {
-        return accepted(all, list, out);
+        return accepted(all, out);
     }
     let Stage::Refused(refusal) = stage else {
         return Framed::NotEnded;
     };
     refused(refusal, out)
+}
+
+// The acknowledgement of a walk that has ended, at the front of the buffer: at most 35 bytes for each employer and 35 more. Only the frames of
+// employers need the list, so all that is decided is decided without it.
+pub fn frames(st: State, list: &[Employer], out: &mut [u8]) -> Framed
+    ensures { λ r. ⌜ record { answer = r; out = now (out .exit) } ≡ framing (walkOf st) (now (list .entry)) (now (out .entry)) ⌝ }
+{
+    let n = employers_framed(st, list.len(), out.len());
+    put_employers(out, list, n);
+    last_frame(st, list.len(), out)
 }

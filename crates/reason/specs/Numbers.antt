@@ -1,5 +1,9 @@
 -- The paper's number of each reason, and what an edit finds in the paper's numbers.
 use Prim.Native.Nat.{ℕ}
+use mathlib.Core.Bool.{Bool}
+use mathlib.Core.List.{List, [], _∷_}
+use lib.Dec.{eqb}
+use Rattle.laws.specs.Choice.{if_then_else_}
 use Rattle.laws.specs.Finding.{Finding, fine, broken}
 use Rattle.reason.specs.declared.Edit.{Edit}
 use Rattle.reason.specs.declared.Edit.the-variants.{Passed, Broken}
@@ -68,6 +72,29 @@ numberOf NotToBeWritten = 80
 numberOf NoneToTotal = 81
 numberOf SumTooLarge = 82
 numberOf SliceLength = 83
+
+-- Every reason.
+abbrev pub reasons : List Reason
+reasons =
+    LineLength ∷ NoLineEnd ∷ BadCharacter ∷ UnknownLetter ∷ EndsBeforeA ∷ EndsAfterA ∷ EndsWithEOpen ∷ EndsWithoutF ∷ BeforeA ∷ SecondA ∷ SWithoutE ∷
+    TWithoutE ∷ FWithoutE ∷ EWhileEOpen ∷ SUnderZeroE ∷ FWhileEOpen ∷ SecondT ∷ SecondF ∷ BehindF ∷ NotDigit ∷ NotBlank ∷ TextMissing ∷ TextIndented ∷
+    NotEntityCode ∷ UnknownState ∷ BadZip ∷ BadZipExtension ∷ YearTooEarly ∷ YearNotClosed ∷ BadPeriod ∷ PeriodNotClosed ∷ YearNotOfA ∷ PeriodNotOfA ∷
+    FeinPrefix ∷ FeinRepeated ∷ FeinNotOfE ∷ BadFlag ∷ NoDate ∷ DateOutsideQuarter ∷ DateNotFinal ∷ DateMissing ∷ IdentityPrefix ∷ IdentityRepeated ∷
+    BadNameCharacter ∷ CountNotOfS ∷ NoneUnderE ∷ WagesNotOfS ∷ FileCountNotOfS ∷ FileCountNotOfE ∷ FileWagesNotOfS ∷ TooManyS ∷ IdTableFull ∷
+    EmployerListFull ∷ BadQuarter ∷ WalkEnded ∷ StateUnfit ∷ NotToBeWritten ∷ NoneToTotal ∷ SumTooLarge ∷ SliceLength ∷ []
+
+-- The first of them that has a number; where none has it, the reason of 72.
+unfoldable pub havingNumber : ℕ → List Reason → Reason
+havingNumber n [] = StateUnfit
+havingNumber n (reason ∷ rest) = if eqb n (numberOf reason) then reason else havingNumber n rest
+
+-- The reason that has a number.
+unfoldable pub reasonOf : ℕ → Reason
+reasonOf n = havingNumber n reasons
+
+-- Whether a number is one of the paper's table.
+unfoldable pub isListed : ℕ → Bool
+isListed n = eqb (numberOf (reasonOf n)) n
 
 -- The column, and the number of the reason.
 abbrev pub findingOf : Edit → Finding

@@ -1,16 +1,15 @@
 -- Each number of the paper's table has one reason and each reason one number, so that a promise in numbers leaves room for one answer.
-use Prim.Native.Nat.{ℕ, zero, suc, _<_, _+_}
-use mathlib.Core.Bool.{Bool}
+use Prim.Native.Nat.{ℕ, zero, suc, _<_}
+use mathlib.Core.Bool.{Bool, true}
 use mathlib.Core.List.{List, [], _∷_, _++_}
 use mathlib.Core.Path.{_≡_, refl, sym, ap, _∙_}
 use native.Mathlib.Omega.{arith}
-use lib.Dec.{T, eqb}
+use lib.Dec.{T}
 use lib.ListN.{length, getD}
-use borrow.Author.Tests.{eqb-true}
-use Rattle.laws.specs.Choice.{if_then_else_}
+use borrow.Author.Tests.{eqb-true, eq-eqb, ne-eqb}
 use Rattle.laws.specs.Finding.{fine, broken}
 use Rattle.laws.specs.Table.{every, at}
-use Rattle.reason.specs.Numbers.{numberOf, findingOf, Notice, noticeOf}
+use Rattle.reason.specs.Numbers.{numberOf, reasons, havingNumber, reasonOf, isListed, findingOf, Notice, noticeOf}
 use Rattle.reason.specs.declared.Edit.{Edit}
 use Rattle.reason.specs.declared.Edit.the-variants.{Passed, Broken}
 use Rattle.reason.specs.declared.Reason.{Reason}
@@ -25,73 +24,9 @@ from first (suc count) = first ∷ from (suc first) count
 unfoldable pub listed : List ℕ
 listed = from 1 8 ++ from 10 11 ++ from 30 34 ++ from 70 3 ++ from 80 4
 
--- The reason that has a number; of a number that is not listed, any.
-unfoldable pub reasonOf : ℕ → Reason
-reasonOf n =
-    if eqb n 1 then LineLength else
-    if eqb n 2 then NoLineEnd else
-    if eqb n 3 then BadCharacter else
-    if eqb n 4 then UnknownLetter else
-    if eqb n 5 then EndsBeforeA else
-    if eqb n 6 then EndsAfterA else
-    if eqb n 7 then EndsWithEOpen else
-    if eqb n 8 then EndsWithoutF else
-    if eqb n 10 then BeforeA else
-    if eqb n 11 then SecondA else
-    if eqb n 12 then SWithoutE else
-    if eqb n 13 then TWithoutE else
-    if eqb n 14 then FWithoutE else
-    if eqb n 15 then EWhileEOpen else
-    if eqb n 16 then SUnderZeroE else
-    if eqb n 17 then FWhileEOpen else
-    if eqb n 18 then SecondT else
-    if eqb n 19 then SecondF else
-    if eqb n 20 then BehindF else
-    if eqb n 30 then NotDigit else
-    if eqb n 31 then NotBlank else
-    if eqb n 32 then TextMissing else
-    if eqb n 33 then TextIndented else
-    if eqb n 34 then NotEntityCode else
-    if eqb n 35 then UnknownState else
-    if eqb n 36 then BadZip else
-    if eqb n 37 then BadZipExtension else
-    if eqb n 38 then YearTooEarly else
-    if eqb n 39 then YearNotClosed else
-    if eqb n 40 then BadPeriod else
-    if eqb n 41 then PeriodNotClosed else
-    if eqb n 42 then YearNotOfA else
-    if eqb n 43 then PeriodNotOfA else
-    if eqb n 44 then FeinPrefix else
-    if eqb n 45 then FeinRepeated else
-    if eqb n 46 then FeinNotOfE else
-    if eqb n 47 then BadFlag else
-    if eqb n 48 then NoDate else
-    if eqb n 49 then DateOutsideQuarter else
-    if eqb n 50 then DateNotFinal else
-    if eqb n 51 then DateMissing else
-    if eqb n 52 then IdentityPrefix else
-    if eqb n 53 then IdentityRepeated else
-    if eqb n 54 then BadNameCharacter else
-    if eqb n 55 then CountNotOfS else
-    if eqb n 56 then NoneUnderE else
-    if eqb n 57 then WagesNotOfS else
-    if eqb n 58 then FileCountNotOfS else
-    if eqb n 59 then FileCountNotOfE else
-    if eqb n 60 then FileWagesNotOfS else
-    if eqb n 61 then TooManyS else
-    if eqb n 62 then IdTableFull else
-    if eqb n 63 then EmployerListFull else
-    if eqb n 70 then BadQuarter else
-    if eqb n 71 then WalkEnded else
-    if eqb n 72 then StateUnfit else
-    if eqb n 80 then NotToBeWritten else
-    if eqb n 81 then NoneToTotal else
-    if eqb n 82 then SumTooLarge else
-    SliceLength
-
 -- The reason is found again from its number.
 pub found-again : (reason : Reason) → reasonOf (numberOf reason) ≡ reason
-unfolding reasonOf
+unfolding reasonOf havingNumber
 found-again LineLength = refl
 found-again NoLineEnd = refl
 found-again BadCharacter = refl
@@ -157,25 +92,54 @@ found-again SliceLength = refl
 pub same-number : (a b : Reason) → numberOf a ≡ numberOf b → a ≡ b
 same-number a b e = sym (found-again a) ∙ ap reasonOf e ∙ found-again b
 
+-- The reason of a number is the one that has it; where no reason has it, that of 72.
+pub has-number : {reason : Reason} {n : ℕ} → n ≡ numberOf reason → reason ≡ reasonOf n
+has-number {reason} e = sym (ap reasonOf e ∙ found-again reason)
+
+-- That n is no number of the reasons in a list, one fact after the other, behind what is known before.
+abbrev NoneHas : ℕ → Type 0 → List Reason → Type 0
+NoneHas n known [] = known
+NoneHas n known (reason ∷ rest) = NoneHas n (known × (n ≡ numberOf reason → ⊥)) rest
+
+none-having : (n : ℕ) (known : Type 0) (list : List Reason) → NoneHas n known list → (havingNumber n list ≡ StateUnfit) × known
+unfolding havingNumber
+none-having n known [] facts = (refl, facts)
+none-having n known (reason ∷ rest) facts =
+    let later = none-having n (known × (n ≡ numberOf reason → ⊥)) rest facts in
+    (rw (ne-eqb n (numberOf reason) (later .1 .1)) (later .0), later .1 .0)
+
+pub no-number : (n : ℕ) → NoneHas n Unit reasons → StateUnfit ≡ reasonOf n
+unfolding reasonOf
+no-number n facts = sym (none-having n Unit reasons facts .0)
+
+-- Every reason's number is in the table, and a number of the table is its reason's.
+pub number-listed : (reason : Reason) → isListed (numberOf reason) ≡ true
+unfolding isListed
+number-listed reason = eq-eqb _ _ (ap numberOf (found-again reason))
+
+pub listed-number : (n : ℕ) → isListed n ≡ true → numberOf (reasonOf n) ≡ n
+unfolding isListed
+listed-number n e = eqb-true (numberOf (reasonOf n)) n e
+
 -- 0 is "accepted": it is no reason's.
 pub never-zero : (reason : Reason) → numberOf reason ≡ 0 → ⊥
-unfolding reasonOf
+unfolding reasonOf havingNumber
 never-zero reason e =
-    let this : reason ≡ SliceLength = sym (found-again reason) ∙ ap reasonOf e in
-    let z : _≡_ {A = ℕ} 0 83 = sym e ∙ ap numberOf this in
+    let this : reason ≡ StateUnfit = sym (found-again reason) ∙ ap reasonOf e in
+    let z : _≡_ {A = ℕ} 0 72 = sym e ∙ ap numberOf this in
     omega arith
 
 -- Every number listed is the number of a reason.
 right : ℕ → ℕ → Bool
-right k n = eqb (numberOf (reasonOf n)) n
+right k n = isListed n
 
 all-right : T (every right 0 0 listed)
-unfolding right listed reasonOf
+unfolding right listed isListed reasonOf havingNumber
 all-right = tt
 
 pub listed-has-reason : (k : ℕ) → k < length listed → numberOf (reasonOf (getD listed k 0)) ≡ getD listed k 0
 unfolding right
-listed-has-reason k h = eqb-true _ _ (at right 0 listed all-right k h)
+listed-has-reason k h = listed-number (getD listed k 0) (at right 0 listed all-right k h)
 
 not-broken : (column number : ℕ) → fine ≡ broken column number → ⊥
 not-broken column number e = let z : _≡_ {A = ℕ} 0 1 = cc in omega arith

@@ -1,8 +1,9 @@
 // Why a file is refused, and where.
 ghost use mathlib.Core.Path.{_≡_};
-ghost use Rattle.reason.specs.Numbers.{numberOf};
+ghost use Rattle.reason.specs.Numbers.{numberOf, reasonOf, isListed};
 
-// One reason for each number of the paper's table. The number of a reason is `number_of`: nothing else goes by cases on the reasons.
+// One reason for each number of the paper's table. The number of a reason is `number_of`, and `reason_of` the way back: nothing else goes by cases on
+// the reasons.
 pub enum Reason {
     // 1: A line's length is not the record's.
     LineLength,
@@ -205,4 +206,81 @@ pub fn number_of(reason: Reason) -> u8
         Reason::SumTooLarge => 82,
         Reason::SliceLength => 83,
     }
+}
+
+// The reason that has a number; where none has it, the reason of 72.
+pub fn reason_of(number: u64) -> Reason
+    ensures { λ r. ⌜ r ≡ reasonOf number ⌝ }
+{
+    match number {
+        1 => Reason::LineLength,
+        2 => Reason::NoLineEnd,
+        3 => Reason::BadCharacter,
+        4 => Reason::UnknownLetter,
+        5 => Reason::EndsBeforeA,
+        6 => Reason::EndsAfterA,
+        7 => Reason::EndsWithEOpen,
+        8 => Reason::EndsWithoutF,
+        10 => Reason::BeforeA,
+        11 => Reason::SecondA,
+        12 => Reason::SWithoutE,
+        13 => Reason::TWithoutE,
+        14 => Reason::FWithoutE,
+        15 => Reason::EWhileEOpen,
+        16 => Reason::SUnderZeroE,
+        17 => Reason::FWhileEOpen,
+        18 => Reason::SecondT,
+        19 => Reason::SecondF,
+        20 => Reason::BehindF,
+        30 => Reason::NotDigit,
+        31 => Reason::NotBlank,
+        32 => Reason::TextMissing,
+        33 => Reason::TextIndented,
+        34 => Reason::NotEntityCode,
+        35 => Reason::UnknownState,
+        36 => Reason::BadZip,
+        37 => Reason::BadZipExtension,
+        38 => Reason::YearTooEarly,
+        39 => Reason::YearNotClosed,
+        40 => Reason::BadPeriod,
+        41 => Reason::PeriodNotClosed,
+        42 => Reason::YearNotOfA,
+        43 => Reason::PeriodNotOfA,
+        44 => Reason::FeinPrefix,
+        45 => Reason::FeinRepeated,
+        46 => Reason::FeinNotOfE,
+        47 => Reason::BadFlag,
+        48 => Reason::NoDate,
+        49 => Reason::DateOutsideQuarter,
+        50 => Reason::DateNotFinal,
+        51 => Reason::DateMissing,
+        52 => Reason::IdentityPrefix,
+        53 => Reason::IdentityRepeated,
+        54 => Reason::BadNameCharacter,
+        55 => Reason::CountNotOfS,
+        56 => Reason::NoneUnderE,
+        57 => Reason::WagesNotOfS,
+        58 => Reason::FileCountNotOfS,
+        59 => Reason::FileCountNotOfE,
+        60 => Reason::FileWagesNotOfS,
+        61 => Reason::TooManyS,
+        62 => Reason::IdTableFull,
+        63 => Reason::EmployerListFull,
+        70 => Reason::BadQuarter,
+        71 => Reason::WalkEnded,
+        72 => Reason::StateUnfit,
+        80 => Reason::NotToBeWritten,
+        81 => Reason::NoneToTotal,
+        82 => Reason::SumTooLarge,
+        83 => Reason::SliceLength,
+        _ => Reason::StateUnfit,
+    }
+}
+
+// Whether a number is one of the paper's table.
+pub fn is_listed(number: u64) -> bool
+    ensures { λ r. ⌜ r ≡ isListed number ⌝ }
+{
+    let reason = reason_of(number);
+    number_of(reason) as u64 == number
 }

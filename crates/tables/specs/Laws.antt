@@ -5,9 +5,9 @@ use mathlib.Core.List.{List, [], _∷_, _++_, map, append-nil, map-append}
 use mathlib.Core.Path.{_≡_, refl, ap}
 use native.Mathlib.Nat.{zero-min}
 use native.Mathlib.Omega.{arith}
-use lib.ListN.{length, take, replicate, length-append, length-drop, length-replicate, length-set, length-map, drop-of-length-le}
+use lib.ListN.{length, getD, take, set, replicate, length-append, length-drop, length-replicate, length-set, drop-of-length-le}
 use lib.Seq.{drop-append-seam, set-append-seam, getD-append-seam, set-out}
-use Rattle.tables.specs.Tables.{wiped, isAmong, noEmployer, closedAt, feinsOf, entryOf, entriesOf}
+use Rattle.tables.specs.Tables.{wiped, isAmong, noEmployer, closed, closedAt, feinsOf}
 use Rattle.tables.specs.declared.Employer.{Employer}
 
 -- ---- entries at rest
@@ -48,19 +48,15 @@ map-take f zero l = refl
 map-take f (suc n) [] = refl
 map-take f (suc n) (x ∷ l) = ap (λ (t : List _). f x ∷ t) (map-take f n l)
 
-pub entries-length : (rows : List (List ℕ)) → length (entriesOf rows) ≡ length rows
-unfolding entriesOf
-entries-length rows = length-map rows entryOf
-
-pub entries-take : (n : ℕ) (rows : List (List ℕ)) → entriesOf (take n rows) ≡ take n (entriesOf rows)
-unfolding entriesOf
-entries-take n rows = map-take entryOf n rows
-
 pub feins-append : (a b : List Employer) → feinsOf (a ++ b) ≡ feinsOf a ++ feinsOf b
 feins-append a b = map-append (λ (e : Employer). e .fein) a b
 
 pub feins-take : (n : ℕ) (l : List Employer) → feinsOf (take n l) ≡ take n (feinsOf l)
 feins-take n l = map-take (λ (e : Employer). e .fein) n l
+
+pub closed-is : (at count cents : ℕ) (l : List Employer) → closedAt at count cents l ≡ set l at (closed (getD l at noEmployer) count cents)
+unfolding closedAt
+closed-is at count cents l = refl
 
 pub closed-length : (at count cents : ℕ) (l : List Employer) → length (closedAt at count cents l) ≡ length l
 unfolding closedAt
@@ -71,6 +67,6 @@ unfolding closedAt
 closed-out at count cents l h = set-out l at _ h
 
 pub closed-at : (front : List Employer) (e : Employer) (back : List Employer) (count cents : ℕ)
-    → closedAt (length front) count cents (front ++ (e ∷ back)) ≡ front ++ (record { fein = e .fein; count = count; cents = cents } ∷ back)
+    → closedAt (length front) count cents (front ++ (e ∷ back)) ≡ front ++ (closed e count cents ∷ back)
 unfolding closedAt
 closed-at front e back count cents = rw (getD-append-seam front e back noEmployer, set-append-seam)

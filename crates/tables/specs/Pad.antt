@@ -6,7 +6,7 @@ use native.Mathlib.Omega.{arith}
 use lib.ListN.{length, take, set, replicate, length-append, length-replicate, replicate-append-replicate}
 use lib.Seq.{take-append-seam, set-at}
 use Rattle.tables.specs.Laws.{wiped-front, closed-at}
-use Rattle.tables.specs.Tables.{wiped, noEmployer, closedAt}
+use Rattle.tables.specs.Tables.{wiped, noEmployer, closed, closedAt}
 use Rattle.tables.specs.declared.Employer.{Employer}
 
 unfoldable pub pad : {A : Type 0} → A → ℕ → List A → List A
@@ -38,7 +38,7 @@ module _ {A : Type 0} (z : A) (n : ℕ) where
       rw (wiped-front, replicate-append-replicate, all)
 
 pub closed-pad : (front : List Employer) (e : Employer) (n count cents : ℕ)
-    → closedAt (length front) count cents (pad noEmployer n (front ++ (e ∷ []))) ≡ pad noEmployer n (front ++ (record { fein = e .fein; count = count; cents = cents } ∷ []))
+    → closedAt (length front) count cents (pad noEmployer n (front ++ (e ∷ []))) ≡ pad noEmployer n (front ++ (closed e count cents ∷ []))
 unfolding pad
 closed-pad front e n count cents =
     let left = replicate (n - length (front ++ (e ∷ []))) noEmployer in

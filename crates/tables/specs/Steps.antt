@@ -1,16 +1,16 @@
 -- What a step of the code leaves: the laws that the proofs of this crate cite.
 use Prim.Native.Nat.{ℕ, zero, suc, _+_, _<_, min}
 use mathlib.Core.Bool.{_||_, or-false}
-use mathlib.Core.List.{List, [], _∷_, map, map-append}
-use mathlib.Core.Path.{_≡_, refl, ap, _∙_}
+use mathlib.Core.List.{List, [], _∷_}
+use mathlib.Core.Path.{_≡_, ap}
 use native.Mathlib.Nat.{not-suc-le-zero, le-of-suc-le-suc, zero-min, suc-min-suc}
 use native.Mathlib.Numerals.{add-one}
 use native.Mathlib.Omega.{arith}
 use lib.Dec.{eqb}
-use lib.ListN.{length, getD, take, drop, set, replicate, length-map, List·getD-map}
+use lib.ListN.{length, getD, take, drop, set, length-map, List·getD-map}
 use lib.Seq.{take-nil, drop-nil, take-suc}
-use Rattle.tables.specs.Laws.{among-append, entries-length}
-use Rattle.tables.specs.Tables.{wiped, isAmong, noEmployer, closedAt, feinsOf, noRow, entryOf, entriesOf}
+use Rattle.tables.specs.Laws.{among-append}
+use Rattle.tables.specs.Tables.{wiped, isAmong, noEmployer, feinsOf}
 use Rattle.tables.specs.declared.Employer.{Employer}
 
 -- ---- one more entry
@@ -35,7 +35,7 @@ module _ {A : Type 0} where
   take-least zero (x ∷ l) = rw zero-min
   take-least (suc n) (x ∷ l) = rw suc-min-suc (ap (λ (t : List A). x ∷ t) (take-least n l))
 
-  drop-least : (n : ℕ) (l : List A) → drop (min n (length l)) l ≡ drop n l
+  pub drop-least : (n : ℕ) (l : List A) → drop (min n (length l)) l ≡ drop n l
   drop-least n [] = rw (drop-nil (min n 0), drop-nil n)
   drop-least zero (x ∷ l) = rw zero-min
   drop-least (suc n) (x ∷ l) = rw suc-min-suc (drop-least n l)
@@ -46,42 +46,10 @@ module _ {A : Type 0} where
       let same : min (min n (length l)) (length l) ≡ min n (length l) = omega arith in
       rw (same, drop-least)
 
--- ---- rows
-module _ {A B : Type 0} (f : A → B) where
-  map-drop : (n : ℕ) (l : List A) → map f (drop n l) ≡ drop n (map f l)
-  map-drop zero l = refl
-  map-drop (suc n) [] = refl
-  map-drop (suc n) (x ∷ l) = map-drop n l
+-- ---- the FEINs of a list
+module _ (l : List Employer) where
+  pub feins-length : length (feinsOf l) ≡ length l
+  feins-length = length-map l (λ (e : Employer). e .fein)
 
-  map-replicate : (n : ℕ) (a : A) → map f (replicate n a) ≡ replicate n (f a)
-  map-replicate zero a = refl
-  map-replicate (suc n) a = ap (λ (t : List B). f a ∷ t) (map-replicate n a)
-
-  map-set : (l : List A) (i : ℕ) (a : A) → map f (set l i a) ≡ set (map f l) i (f a)
-  map-set [] i a = refl
-  map-set (x ∷ l) zero a = refl
-  map-set (x ∷ l) (suc i) a = ap (λ (t : List B). f x ∷ t) (map-set l i a)
-
-module _ (rows : List (List ℕ)) where
-  pub entries-at : (at : ℕ) → getD (entriesOf rows) at noEmployer ≡ entryOf (getD rows at [])
-  unfolding entriesOf
-  entries-at at = List·getD-map entryOf rows at []
-
-  pub entries-set : (at : ℕ) (row : List ℕ) → entriesOf (set rows at row) ≡ set (entriesOf rows) at (entryOf row)
-  unfolding entriesOf
-  entries-set at row = map-set entryOf rows at row
-
-  pub entries-wiped : (n : ℕ) → entriesOf (wiped noRow n rows) ≡ wiped noEmployer n (entriesOf rows)
-  unfolding entriesOf wiped
-  entries-wiped n = rw (map-append, map-replicate, map-drop, length-map)
-
-  pub entries-closed : (at count cents : ℕ)
-      → entriesOf (set rows at (getD (getD rows at []) 0 0 ∷ count ∷ cents ∷ [])) ≡ closedAt at count cents (entriesOf rows)
-  unfolding closedAt
-  entries-closed at count cents = rw (entries-set, entries-at)
-
-  pub feins-length : length (feinsOf (entriesOf rows)) ≡ length rows
-  feins-length = length-map (entriesOf rows) (λ (e : Employer). e .fein) ∙ entries-length rows
-
-  pub fein-at : (at : ℕ) → getD (feinsOf (entriesOf rows)) at 0 ≡ getD (getD rows at []) 0 0
-  fein-at at = List·getD-map (λ (e : Employer). e .fein) (entriesOf rows) at noEmployer ∙ ap (λ (e : Employer). e .fein) (entries-at at)
+  pub fein-at : (at : ℕ) → getD (feinsOf l) at 0 ≡ getD l at noEmployer .fein
+  fein-at at = List·getD-map (λ (e : Employer). e .fein) l at noEmployer

@@ -24,20 +24,13 @@ noEmployer = record { fein = 0; count = 0; cents = 0 }
 abbrev pub opened : ℕ → Employer
 opened fein = record { fein = fein; count = 0; cents = 0 }
 
--- The entry at a place done: its FEIN, with the count and the cents.
+-- An entry done: its FEIN, with the count and the cents.
+abbrev pub closed : Employer → ℕ → ℕ → Employer
+closed e count cents = record { fein = e .fein; count = count; cents = cents }
+
+-- The list with the entry at a place done.
 unfoldable pub closedAt : ℕ → ℕ → ℕ → List Employer → List Employer
-closedAt at count cents l = set l at (record { fein = getD l at noEmployer .fein; count = count; cents = cents })
+closedAt at count cents l = set l at (closed (getD l at noEmployer) count cents)
 
 abbrev pub feinsOf : List Employer → List ℕ
 feinsOf l = map (λ (e : Employer). e .fein) l
-
--- ---- the rows of three numbers that hold the list
--- A row at rest.
-abbrev pub noRow : List ℕ
-noRow = 0 ∷ 0 ∷ 0 ∷ []
-
-abbrev pub entryOf : List ℕ → Employer
-entryOf row = record { fein = getD row 0 0; count = getD row 1 0; cents = getD row 2 0 }
-
-unfoldable pub entriesOf : List (List ℕ) → List Employer
-entriesOf rows = map entryOf rows

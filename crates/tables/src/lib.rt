@@ -5,7 +5,9 @@ pub mod list;
 ghost use mathlib.Core.Path.{_≡_};
 ghost use Prim.Native.Nat.{min};
 
-// An employer's entry: its FEIN, the number of S records and the sum of their wages in cents.
+// An employer's entry: its FEIN, the number of S records and the sum of their wages in cents. It lies in memory as C lays it out, since callers in
+// other languages lend such a list.
+#[repr(C)]
 pub struct Employer {
     pub fein: u64,
     pub count: u64,

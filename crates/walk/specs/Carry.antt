@@ -3,49 +3,46 @@ use Prim.Native.Nat.{ℕ}
 use mathlib.Core.Bool.{Bool}
 use mathlib.Core.List.{List}
 use mathlib.Core.Path.{_≡_, ap, _∙_}
-use lib.ListN.{length, take}
+use lib.ListN.{take}
 use Rattle.calendar.specs.declared.Quarter.{Quarter}
 use Rattle.chars.specs.Characters.{capitals}
 use Rattle.lines.specs.Lines.{firstLine}
 use Rattle.record.specs.Judge.{kindOn, feinOn, idOn}
-use Rattle.tables.specs.Laws.{entries-length}
-use Rattle.tables.specs.Room.{Room, Tables, tables, roomOf}
-use Rattle.tables.specs.Tables.{entriesOf, feinsOf, isAmong}
+use Rattle.tables.specs.Room.{Tables, tables, roomOf}
+use Rattle.tables.specs.Tables.{feinsOf, isAmong}
+use Rattle.tables.specs.declared.Employer.{Employer}
 use Rattle.state.specs.Walks.{Walk}
 use Rattle.step.specs.Moves.{Moved, movedBy, lineSeen, endMoved, openMoved}
-use Rattle.step.specs.QuestionLaws.{lookedUp, line-asked}
+use Rattle.step.specs.QuestionLaws.{line-asked}
 use Rattle.step.specs.Questions.{entriesAsked, idsAsked}
-use Rattle.step.specs.Steps.{written, carried, outOf, openStep, lineStep, endStep}
+use Rattle.step.specs.Steps.{idsAfter, listAfter, written, carried, outOf, openStep, lineStep, endStep}
 use Rattle.step.specs.declared.Move.{Move}
 
-module _ (m : Move) (ids : List ℕ) (rows : List (List ℕ)) where
+module _ (m : Move) (ids : List ℕ) (list : List Employer) where
   abbrev lent : Tables
-  lent = tables ids (entriesOf rows)
-
-  -- The rooms that the code counts.
-  abbrev counted : Room
-  counted = record { ids = length ids; list = length rows }
-
-  same-room : (f : Room → Moved) → f counted ≡ f (roomOf lent)
-  same-room f = rw (entries-length rows)
+  lent = tables ids list
 
   made : (moved : Moved) → movedBy m ≡ moved → outOf (m .answer) (written (m .change) lent) ≡ carried moved lent
   made moved e = ap (λ (x : Moved). carried x lent) e
 
+  -- The tables as the two functions that carry out a change leave them.
+  pub both-written : (ids′ : List ℕ) (list′ : List Employer) → ids′ ≡ idsAfter (m .change) ids → list′ ≡ listAfter (m .change) list
+      → outOf (m .answer) (tables ids′ list′) ≡ outOf (m .answer) (written (m .change) lent)
+  both-written ids′ list′ e₁ e₂ = λ i. outOf (m .answer) (tables (e₁ i) (e₂ i))
+
   pub open-carried : (held : Quarter) → movedBy m ≡ openMoved held → outOf (m .answer) (written (m .change) lent) ≡ openStep held lent
   open-carried held e = made (openMoved held) e
 
-  pub end-carried : (walk : Walk) → movedBy m ≡ endMoved counted walk → outOf (m .answer) (written (m .change) lent) ≡ endStep walk lent
-  end-carried walk e = made (endMoved (roomOf lent) walk) (e ∙ same-room (λ room. endMoved room walk))
+  pub end-carried : (walk : Walk) → movedBy m ≡ endMoved (roomOf lent) walk → outOf (m .answer) (written (m .change) lent) ≡ endStep walk lent
+  end-carried walk e = made (endMoved (roomOf lent) walk) e
 
   pub line-carried : (walk : Walk) (s : List ℕ) (repeated : Bool)
-      → repeated ≡ isAmong (feinOn (capitals s)) (feinsOf (take (entriesAsked (kindOn (capitals s)) (walk .all .employers)) (entriesOf rows)))
-      → movedBy m ≡ lineSeen counted (record { fein = repeated; id = isAmong (idOn (capitals s)) (take (idsAsked (kindOn (capitals s)) (walk .used)) ids) }) walk (firstLine s)
+      → repeated ≡ isAmong (feinOn (capitals s)) (feinsOf (take (entriesAsked (kindOn (capitals s)) (walk .all .employers)) list))
+      → movedBy m ≡ lineSeen (roomOf lent) (record { fein = repeated; id = isAmong (idOn (capitals s)) (take (idsAsked (kindOn (capitals s)) (walk .used)) ids) }) walk (firstLine s)
       → outOf (m .answer) (written (m .change) lent) ≡ lineStep walk (firstLine s) lent
   line-carried walk s repeated asked e =
       let under = isAmong (idOn (capitals s)) (take (idsAsked (kindOn (capitals s)) (walk .used)) ids) in
       made _
       (e
-      ∙ ap (λ (b : Bool). lineSeen counted (record { fein = b; id = under }) walk (firstLine s)) asked
-      ∙ same-room (λ room. lineSeen room (lookedUp walk lent (kindOn (capitals s)) (capitals s)) walk (firstLine s))
+      ∙ ap (λ (b : Bool). lineSeen (roomOf lent) (record { fein = b; id = under }) walk (firstLine s)) asked
       ∙ line-asked walk lent s)

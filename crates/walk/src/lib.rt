@@ -4,17 +4,27 @@ use record::said;
 use state::State;
 use step::Answer;
 use step::Change;
+use step::Move;
+use step::Reply;
 use step::line;
+use tables::Employer;
 use tables::ids;
 use tables::list;
+ghost use Prim.Native.Nat.{_+_, _≤_};
 ghost use mathlib.Core.Path.{_≡_};
+ghost use lib.ListN.{length, take, drop};
+ghost use Rattle.chars.specs.Characters.{capitals};
 ghost use Rattle.lines.specs.Lines.{firstLine};
-ghost use Rattle.tables.specs.Tables.{entriesOf};
+ghost use Rattle.record.specs.Judge.{kindOn, feinOn, idOn};
 ghost use Rattle.tables.specs.Room.{tables as tablesOf};
+ghost use Rattle.tables.specs.Tables.{isAmong};
 ghost use Rattle.state.specs.Walks.{walkOf};
+ghost use Rattle.step.specs.Moves.{takenIn, movedBy, lineSeen};
+ghost use Rattle.step.specs.Questions.{entriesAsked, idsAsked};
 ghost use Rattle.step.specs.Steps.{idsAfter, listAfter, outOf, openStep, lineStep, endStep};
 ghost use Rattle.walk.specs.Writes.{noWrites, writesOf};
 ghost use Rattle.walk.specs.Calls.{wholeFile};
+ghost use Rattle.walk.specs.WholeLaws.{nextPlace};
 
 // What is written into the employer list: the first so many entries zeroed, a FEIN at a place, a count and cents at a place. A place past the end
 // is none.
@@ -94,70 +104,110 @@ fn change_ids(ids: &mut [u32], change: Change)
 }
 
 // Straight through, with no branch: all deciding is done.
-fn change_list(list: &mut [[u64; 3]], change: Change)
-    ensures { λ _. ⌜ entriesOf (now (list .exit)) ≡ listAfter change (entriesOf (now (list .entry))) ⌝ }
+fn change_list(list: &mut [Employer], change: Change)
+    ensures { λ _. ⌜ now (list .exit) ≡ listAfter change (now (list .entry)) ⌝ }
 {
     let w = writes_of(change, list.len());
     list::zero_first(list, w.zeroed);
-    list::open_entry(list, w.opened_at, w.fein);
-    list::close_entry(list, w.closed_at, w.count, w.cents);
+    list::put(list, w.opened_at, list::opened_entry(w.fein));
+    let old = list::entry_at(list, w.closed_at);
+    list::put(list, w.closed_at, list::closed_entry(old, w.count, w.cents));
 }
 
 // Opens a walk. A quarter that the paper does not allow is 70, and nothing is touched.
-pub fn open(held: Quarter, ids: &mut [u32], list: &mut [[u64; 3]]) -> Answer
-    ensures { λ r. ⌜ outOf r (tablesOf (now (ids .exit)) (entriesOf (now (list .exit)))) ≡ openStep held (tablesOf (now (ids .entry)) (entriesOf (now (list .entry)))) ⌝ }
+pub fn open(held: Quarter, ids: &mut [u32], list: &mut [Employer]) -> Answer
+    ensures { λ r. ⌜ outOf r (tablesOf (now (ids .exit)) (now (list .exit))) ≡ openStep held (tablesOf (now (ids .entry)) (now (list .entry))) ⌝ }
 {
     let m = step::open_move(held);
-    let change = m.change;
-    change_ids(ids, change);
-    change_list(list, change);
-    let answer = m.answer;
-    answer
+    change_ids(ids, m.change);
+    change_list(list, m.change);
+    m.answer
+}
+
+// What a line asks of the employer list: whether its FEIN is among those of the first so many entries.
+struct Asked {
+    entries: usize,
+    fein: u64,
+}
+
+// What the line at a place of the bytes asks. A place past the end is the end.
+fn asked_at(st: State, bytes: &[u8], at: usize) -> Asked
+    ensures { λ r. ⌜ r ≡ record { entries = entriesAsked (kindOn (capitals (drop at (now (bytes .entry))))) (st .all .employers); fein = feinOn (capitals (drop at (now (bytes .entry)))) } ⌝ }
+{
+    if at < bytes.len() {
+        return Asked {
+            entries: line::entries_asked(st, &bytes[at..]),
+            fein: said::fein_on(&bytes[at..]),
+        };
+    }
+    Asked {
+        entries: line::entries_asked(st, &[]),
+        fein: said::fein_on(&[]),
+    }
+}
+
+// What the line at a place of the bytes answers and changes. A place past the end is the end.
+fn move_at(st: State, bytes: &[u8], at: usize, ids: &[u32], list: usize, repeated: bool) -> Move
+    ensures { λ r. ⌜ movedBy r ≡ lineSeen (record { ids = length (now (ids .entry)); list = list }) (record { fein = repeated; id = isAmong (idOn (capitals (drop at (now (bytes .entry))))) (take (idsAsked (kindOn (capitals (drop at (now (bytes .entry))))) (st .used)) (now (ids .entry))) }) (walkOf st) (firstLine (drop at (now (bytes .entry)))) ⌝ }
+{
+    if at < bytes.len() {
+        return line::line_move(st, &bytes[at..], ids, list, repeated);
+    }
+    line::line_move(st, &[], ids, list, repeated)
+}
+
+// One line: the first of the bytes from a place on.
+pub fn line_at(st: State, bytes: &[u8], at: usize, ids: &mut [u32], list: &mut [Employer]) -> Answer
+    ensures { λ r. ⌜ outOf r (tablesOf (now (ids .exit)) (now (list .exit))) ≡ lineStep (walkOf st) (firstLine (drop at (now (bytes .entry)))) (tablesOf (now (ids .entry)) (now (list .entry))) ⌝ }
+{
+    let asked = asked_at(st, bytes, at);
+    let repeated = list::has_fein(list, asked.entries, asked.fein);
+    let m = move_at(st, bytes, at, ids, list.len(), repeated);
+    change_ids(ids, m.change);
+    change_list(list, m.change);
+    m.answer
 }
 
 // One line: the first of the bytes lent.
-pub fn line(st: State, bytes: &[u8], ids: &mut [u32], list: &mut [[u64; 3]]) -> Answer
-    ensures { λ r. ⌜ outOf r (tablesOf (now (ids .exit)) (entriesOf (now (list .exit)))) ≡ lineStep (walkOf st) (firstLine (now (bytes .entry))) (tablesOf (now (ids .entry)) (entriesOf (now (list .entry)))) ⌝ }
+pub fn line(st: State, bytes: &[u8], ids: &mut [u32], list: &mut [Employer]) -> Answer
+    ensures { λ r. ⌜ outOf r (tablesOf (now (ids .exit)) (now (list .exit))) ≡ lineStep (walkOf st) (firstLine (now (bytes .entry))) (tablesOf (now (ids .entry)) (now (list .entry))) ⌝ }
 {
-    let asked = line::entries_asked(st, bytes);
-    let repeated = list::has_fein(list, asked, said::fein_on(bytes));
-    let m = line::line_move(st, bytes, ids, list.len(), repeated);
-    let change = m.change;
-    change_ids(ids, change);
-    change_list(list, change);
-    let answer = m.answer;
-    answer
+    line_at(st, bytes, 0, ids, list)
 }
 
 // The end of the input.
-pub fn end(st: State, ids: &mut [u32], list: &mut [[u64; 3]]) -> Answer
-    ensures { λ r. ⌜ outOf r (tablesOf (now (ids .exit)) (entriesOf (now (list .exit)))) ≡ endStep (walkOf st) (tablesOf (now (ids .entry)) (entriesOf (now (list .entry)))) ⌝ }
+pub fn end(st: State, ids: &mut [u32], list: &mut [Employer]) -> Answer
+    ensures { λ r. ⌜ outOf r (tablesOf (now (ids .exit)) (now (list .exit))) ≡ endStep (walkOf st) (tablesOf (now (ids .entry)) (now (list .entry))) ⌝ }
 {
     let m = step::end_move(st, ids.len(), list.len());
-    let change = m.change;
-    change_ids(ids, change);
-    change_list(list, change);
-    let answer = m.answer;
-    answer
+    change_ids(ids, m.change);
+    change_list(list, m.change);
+    m.answer
+}
+
+// Where the next line begins: behind the bytes taken, or at the end after a refusal, since no other line is then taken.
+fn next_place(at: usize, reply: Reply, end: usize) -> usize
+    requires { ⌜ at + takenIn reply ≤ end ⌝ }
+    ensures { λ r. ⌜ r ≡ nextPlace at (takenIn reply) end ⌝ }
+{
+    let taken = step::taken_in(reply);
+    if taken == 0 {
+        return end;
+    }
+    at + taken
 }
 
 // A whole file in one slice: opening, a call for each line, and the end call, also after a refusal.
-pub fn whole(held: Quarter, bytes: &[u8], ids: &mut [u32], list: &mut [[u64; 3]]) -> Answer
-    ensures { λ r. ⌜ outOf r (tablesOf (now (ids .exit)) (entriesOf (now (list .exit)))) ≡ wholeFile held (now (bytes .entry)) (tablesOf (now (ids .entry)) (entriesOf (now (list .entry)))) ⌝ }
+pub fn whole(held: Quarter, bytes: &[u8], ids: &mut [u32], list: &mut [Employer]) -> Answer
+    ensures { λ r. ⌜ outOf r (tablesOf (now (ids .exit)) (now (list .exit))) ≡ wholeFile held (now (bytes .entry)) (tablesOf (now (ids .entry)) (now (list .entry))) ⌝ }
 {
     let opened = open(held, ids, list);
     let mut st = opened.state;
     let mut at = 0;
     while at < bytes.len() {
-        let a = line(st, &bytes[at..], ids, list);
-        let reply = a.reply;
-        let next = a.state;
-        let taken = step::taken_in(reply);
-        if taken == 0 {
-            return end(next, ids, list);
-        }
-        st = next;
-        at += taken;
+        let a = line_at(st, bytes, at, ids, list);
+        st = a.state;
+        at = next_place(at, a.reply, bytes.len());
     }
     end(st, ids, list)
 }

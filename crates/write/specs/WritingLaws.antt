@@ -22,6 +22,11 @@ pub record Free (unfitness long next none large : Bool) : Type 0 where
   pub some : none ≡ false
   pub small : large ≡ false
 
+-- 72 comes first of all.
+pub unfit-first : (long next none large : Bool) → refusalOf true long next none large ≡ 72
+unfolding refusalOf
+unfit-first long next none large = refl
+
 pub not-refused : (unfitness long next none large : Bool) → refusalOf unfitness long next none large ≡ 0 → Free unfitness long next none large
 unfolding refusalOf
 not-refused true long next none large e = absurd (omega arith)

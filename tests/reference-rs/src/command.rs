@@ -1,4 +1,4 @@
-//! The command language of the program `calls`.
+//! The command language of the program `tests/c/calls.c`.
 //!
 //! A command ends with `#`. Its first character names it, digits in fixed columns follow (counted
 //! from 1, the name being the first), and then, where a call is lent bytes, a stroke and these:
@@ -16,6 +16,11 @@
 //! - `X`, a line, lent a list of 65,540 entries: the state has 65,535 employers, or one or two more,
 //!   by the digit in 2; bytes
 //! - `R`, a record written: `T` or `F` in 2, the length of the slice lent 3-5, at most 300
+//! - `F`, the frames: entries lent 2-3, the length of the buffer lent 4-6, at most 500
+//! - `N`, another number in one word of the state: its place 2-3, the number 4-23; a place behind
+//!   the words alters nothing
+//! - `K`, what the calls to come are lent: words of state 2-3, at most 20, and of the answer 4, at
+//!   most 6
 //!
 //! Here a command is written by the widths of its numbers and read by their columns, so that each
 //! checks the other.
@@ -54,7 +59,38 @@ pub enum Command {
         record: Written,
         length: usize,
     },
+    Frames {
+        entries: usize,
+        length: usize,
+    },
+    Word {
+        at: usize,
+        number: u64,
+    },
+    Lend(Lent),
 }
+
+/// So many words of the state and of the answer.
+#[derive(Clone, Copy, Debug, PartialEq, Eq)]
+pub struct Lent {
+    pub words: usize,
+    pub answer: usize,
+}
+
+impl Lent {
+    /// Just what there is to be written.
+    pub const ENOUGH: Lent = Lent {
+        words: 17,
+        answer: 4,
+    };
+    pub const MOST: Lent = Lent {
+        words: 20,
+        answer: 6,
+    };
+}
+
+/// The longest buffer that the program can lend to a call for frames.
+pub const LONGEST_BUFFER: usize = 500;
 
 /// The longest slice that the program can lend to a writing call.
 pub const LONGEST_SLICE: usize = 300;
@@ -160,9 +196,35 @@ impl Text {
         self.0.push(record.letter());
         self.number(length as u64, 3);
     }
+
+    fn framing(&mut self, entries: usize, length: usize) {
+        assert!(length <= LONGEST_BUFFER, "{length} bytes are too many");
+        self.number(entries as u64, 2).number(length as u64, 3);
+    }
+
+    fn lending(&mut self, lent: Lent) {
+        assert!(lent.words <= Lent::MOST.words && lent.answer <= Lent::MOST.answer);
+        self.number(lent.words as u64, 2)
+            .number(lent.answer as u64, 1);
+    }
 }
 
 impl Command {
+    /// Whether the columns of `S` hold a state's numbers.
+    pub fn tells(state: &State) -> bool {
+        let (open, refusal) = (&state.open, refusal_held(state.standing));
+        let years = [state.held.year, state.quarter_of_a.year, refusal.column];
+        let months = [state.held.month, state.quarter_of_a.month];
+        let counts = [open.fein, open.s, open.ids_in_use, state.s, state.employers];
+        let cents = [open.cents, state.cents];
+        let below = |numbers: &[u64], most: u64| numbers.iter().all(|number| *number < most);
+        below(&years, 100_000)
+            && below(&months, 100)
+            && below(&counts, 10_000_000_000)
+            && below(&cents, 10_000_000_000_000_000_000)
+            && (refusal.number == 0 || NUMBERS.contains(&refusal.number))
+    }
+
     fn letter(&self) -> u8 {
         match self {
             Command::Open { .. } => b'O',
@@ -173,6 +235,9 @@ impl Command {
             Command::Tables(_) => b'T',
             Command::Beyond { .. } => b'X',
             Command::Write { .. } => b'R',
+            Command::Frames { .. } => b'F',
+            Command::Word { .. } => b'N',
+            Command::Lend(_) => b'K',
         }
     }
 
@@ -188,6 +253,9 @@ impl Command {
             Command::Tables(altered) => text.alteration(altered),
             Command::Beyond { more, bytes } => text.number(*more, 1).bytes(bytes),
             Command::Write { record, length } => text.writing(*record, *length),
+            Command::Frames { entries, length } => text.framing(*entries, *length),
+            Command::Word { at, number } => drop(text.number(*at as u64, 2).number(*number, 20)),
+            Command::Lend(lent) => text.lending(*lent),
         }
         text.0
     }
@@ -219,6 +287,12 @@ impl Command {
                 bytes: columns.bytes(3)?,
             },
             b'R' => columns.writing()?,
+            b'F' => columns.framing()?,
+            b'N' => Command::Word {
+                at: columns.number(2, 3)? as usize,
+                number: columns.number(4, 23)?,
+            },
+            b'K' => columns.lending()?,
             _ => return None,
         })
     }
@@ -304,6 +378,18 @@ impl Columns<'_> {
         let length = self.number(3, 5)? as usize;
         (length <= LONGEST_SLICE).then_some(Command::Write { record, length })
     }
+
+    fn framing(&self) -> Option<Command> {
+        let entries = self.number(2, 3)? as usize;
+        let length = self.number(4, 6)? as usize;
+        (length <= LONGEST_BUFFER).then_some(Command::Frames { entries, length })
+    }
+
+    fn lending(&self) -> Option<Command> {
+        let (words, answer) = (self.number(2, 3)? as usize, self.number(4, 4)? as usize);
+        let possible = words <= Lent::MOST.words && answer <= Lent::MOST.answer;
+        possible.then_some(Command::Lend(Lent { words, answer }))
+    }
 }
 
 #[cfg(test)]
@@ -356,6 +442,9 @@ mod tests {
             (Command::Line { lent: LENT, bytes: Vec::new() }, "L0403|"),
             (Command::Write { record: Written::T, length: 290 }, "RT290"),
             (Command::Write { record: Written::F, length: 1 }, "RF001"),
+            (Command::Frames { entries: 3, length: 105 }, "F03105"),
+            (Command::Word { at: 10, number: u64::MAX }, "N1018446744073709551615"),
+            (Command::Lend(Lent { words: 5, answer: 0 }), "K050"),
             (Command::Whole { held, lent: LENT, bytes }, "W02026060403|A\n"),
             (
                 Command::Tables(altered),
@@ -388,5 +477,9 @@ mod tests {
         assert_eq!(Command::read(b"RS290"), None);
         assert_eq!(Command::read(b"RT301"), None);
         assert_eq!(Command::read(b"RT29"), None);
+        assert_eq!(Command::read(b"F03501"), None);
+        assert_eq!(Command::read(b"K214"), None);
+        assert_eq!(Command::read(b"K177"), None);
+        assert_eq!(Command::read(b"N0018446744073709551616"), None);
     }
 }

@@ -17,9 +17,9 @@
 //! - `reference needed INPUTS EXPECTED`: the same with pairs that lack one thing of being alike, and
 //!   so get two answers.
 //! - `reference scripts SEED COUNT SCRIPT TOLD`: writes a script of COUNT calls or a few more, and
-//!   writing calls among them, in the language of the program `calls` (`command` has it), and what
-//!   that program must print. Prints how often each number is the answer, and fails if 71, 72 or one
-//!   of 80 to 83 comes fewer than 20 times.
+//!   writing calls among them, in the language of the program `tests/c/calls.c` (`command` has it),
+//!   and what that program must print. Prints how often each number is the answer, and fails if 71,
+//!   72, one of 80 to 83, 87 or 88 comes fewer than 20 times.
 //! - `reference calls`: a script on standard input to what the program must print.
 //! - `reference one SEED COUNT K`: the input of one of these cases (counted from 0) to standard
 //!   output, and what it is to standard error. With `--long` it is one of the long files.
@@ -36,6 +36,7 @@ mod calendar;
 mod command;
 mod draft;
 mod edits;
+mod frames;
 mod framing;
 mod gen;
 mod layout;
@@ -54,6 +55,7 @@ mod tally;
 #[cfg(test)]
 mod tests;
 mod walk;
+mod words;
 mod write;
 
 use gen::{Case, Cases, Options};

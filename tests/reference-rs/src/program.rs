@@ -1,14 +1,16 @@
-//! What the program `calls` does with a script: it keeps a state, an id table of 40 numbers and an
-//! employer list of 12 entries from command to command, and prints each answer with all that the
-//! call leaves. A writing call leaves state and tables as they are, so its answer is printed with
-//! the slice alone.
+//! What the program `tests/c/calls.c` does with a script: it keeps the words of a state, an id table
+//! of 40 numbers and an employer list of 12 entries from command to command, and prints each answer
+//! with all that the call leaves. A call that writes a record or frames leaves state and tables as
+//! they are, so its answer is printed with the slice alone.
 
 use crate::calendar::Quarter;
-use crate::command::{refusal_held, standing_number, Alteration, Command};
+use crate::command::{Alteration, Command, Lent};
 use crate::edits::Refusal;
+use crate::frames;
 use crate::meaning::{Entry, Room};
 use crate::tables::Tables;
 use crate::walk::{self, Answer, LineAnswer, State};
+use crate::words::{state_in, words_of, Words, COUNT};
 use crate::write::Written;
 
 /// The tables that it keeps.
@@ -30,13 +32,23 @@ const LONG_LIST_TOLD_FROM: usize = 65_534;
 /// The state of `X` has so many employers, or one or two more.
 pub const MANY_EMPLOYERS: u64 = 65_535;
 
-/// What stands in each byte of the slice that `R` lends.
+/// The word of the employers.
+const EMPLOYERS: usize = 14;
+
+/// What stands in each byte of the slice that `R` or `F` lends.
 const UNWRITTEN: u8 = b'.';
 
+/// What is told for a word of the answer that is not lent.
+const UNTOLD: u64 = 999;
+
 pub struct Program {
-    pub state: State,
+    pub words: Words,
     pub tables: Tables,
+    pub lent: Lent,
 }
+
+/// Number, line, column and bytes.
+type Reply = [u64; 4];
 
 /// What a call answers, and the line that is printed for it.
 pub struct Told {
@@ -48,72 +60,150 @@ impl Program {
     /// It starts as if a walk had been opened with a quarter of zeros.
     pub fn new() -> Program {
         Program {
-            state: State::opened(Quarter::default()),
+            words: words_of(&State::opened(Quarter::default())),
             tables: Tables::zero(KEPT),
+            lent: Lent::ENOUGH,
         }
     }
 
-    /// Does what a command says; the calls, `X` and `R` print a line.
+    /// Does what a command says; the calls, `X`, `R` and `F` print a line.
     pub fn run(&mut self, command: &Command) -> Option<Told> {
         match command {
             Command::Open { held, lent } => {
-                let (ids, list) = self.tables.lend(*lent);
-                let (state, answer) = walk::open(*held, ids, list);
-                self.state = state;
-                Some(self.told(no_line(answer)))
-            }
-            Command::Line { lent, bytes } => {
-                let (ids, list) = self.tables.lend(*lent);
-                let answer = walk::line(&mut self.state, ids, list, bytes);
-                Some(self.told(answer))
-            }
-            Command::End { lent } => {
-                let (ids, list) = self.tables.lend(*lent);
-                let answer = walk::end(&mut self.state, ids, list);
-                Some(self.told(no_line(answer)))
+                Some(self.opening(*lent, |ids, list| walk::open(*held, ids, list)))
             }
             Command::Whole { held, lent, bytes } => {
-                let (ids, list) = self.tables.lend(*lent);
-                let (state, answer) = walk::whole(*held, ids, list, bytes);
-                self.state = state;
-                Some(self.told(no_line(answer)))
+                Some(self.opening(*lent, |ids, list| walk::whole(*held, ids, list, bytes)))
             }
+            Command::Line { lent, bytes } => Some(self.call(*lent, |state, ids, list| {
+                walk::line(state, ids, list, bytes)
+            })),
+            Command::End { lent } => Some(self.call(*lent, |state, ids, list| {
+                no_line(walk::end(state, ids, list))
+            })),
             Command::Beyond { more, bytes } => Some(self.beyond(*more, bytes)),
             Command::Write { record, length } => Some(self.write(*record, *length)),
-            Command::State(state) => {
-                self.state = *state;
-                None
-            }
-            Command::Tables(altered) => {
-                self.alter(altered);
+            Command::Frames { entries, length } => Some(self.frames(*entries, *length)),
+            _ => {
+                self.set(command);
                 None
             }
         }
     }
 
-    fn told(&self, answer: LineAnswer) -> Told {
+    /// The commands that alter what is kept, or what is lent.
+    fn set(&mut self, command: &Command) {
+        match command {
+            Command::State(state) => self.words = words_of(state),
+            Command::Word { at, number } => {
+                if let Some(word) = self.words.get_mut(*at) {
+                    *word = *number;
+                }
+            }
+            Command::Tables(altered) => self.alter(altered),
+            Command::Lend(lent) => self.lent = *lent,
+            _ => unreachable!("it is a call"),
+        }
+    }
+
+    /// The words of the state that a call is lent.
+    fn lent_words<'a>(&self, words: &'a Words) -> &'a [u64] {
+        &words[..self.lent.words.min(COUNT)]
+    }
+
+    /// A call that needs no state, and has to have room for one: else 72, and nothing is touched.
+    fn opening(
+        &mut self,
+        lent: Room,
+        call: impl Fn(&mut [u32], &mut [Entry]) -> (State, Answer),
+    ) -> Told {
+        if self.lent.words < COUNT {
+            return self.told([72, 0, 0, 0]);
+        }
+        let (ids, list) = self.tables.lend(lent);
+        let (state, answer) = call(ids, list);
+        self.words = words_of(&state);
+        self.told(reply(no_line(answer)))
+    }
+
+    fn call(
+        &mut self,
+        lent: Room,
+        call: impl Fn(&mut State, &mut [u32], &mut [Entry]) -> LineAnswer,
+    ) -> Told {
+        let mut state = state_in(self.lent_words(&self.words));
+        let (ids, list) = self.tables.lend(lent);
+        let reply = reply(call(&mut state, ids, list));
+        put_back(reply, &state, &mut self.words);
+        self.told(reply)
+    }
+
+    fn told(&self, reply: Reply) -> Told {
         let ids = printed_ids(&self.tables.ids);
         let entries = printed_entries(&self.tables.list);
-        told(answer, &self.state, format!("|{ids}|{entries}"))
+        self.told_with(reply, &self.words, format!("|{ids}|{entries}"))
+    }
+
+    /// Number, line, column and bytes taken; the state; then the tables.
+    fn told_with(&self, reply: Reply, words: &Words, tables: String) -> Told {
+        let (told, words) = (printed(&self.answered(reply)), printed(words));
+        Told {
+            number: reply[0] as u8,
+            line: format!("{told}|{words}{tables}\n").into_bytes(),
+        }
+    }
+
+    /// The answer's words as far as they are lent; the number is returned as well.
+    fn answered(&self, reply: Reply) -> Reply {
+        let mut told = reply;
+        for word in told.iter_mut().skip(self.lent.answer.max(1)) {
+            *word = UNTOLD;
+        }
+        told
     }
 
     /// What it leaves is not kept.
     fn beyond(&self, more: u64, bytes: &[u8]) -> Told {
-        let mut state = State {
-            employers: MANY_EMPLOYERS + more.min(2),
-            ..self.state
-        };
+        let mut words = self.words;
+        words[EMPLOYERS] = MANY_EMPLOYERS + more.min(2);
+        let mut state = state_in(self.lent_words(&words));
         let mut ids = [0; KEPT.ids];
         let mut list = vec![LONG_LIST_ENTRY; LONG_LIST];
-        let answer = walk::line(&mut state, &mut ids, &mut list, bytes);
+        let reply = reply(walk::line(&mut state, &mut ids, &mut list, bytes));
+        put_back(reply, &state, &mut words);
         let entries = printed_entries(&list[LONG_LIST_TOLD_FROM..]);
-        told(answer, &state, format!("|{entries}"))
+        self.told_with(reply, &words, format!("|{entries}"))
     }
 
+    /// Number, line and column; then the slice.
     fn write(&self, record: Written, length: usize) -> Told {
         let mut slice = vec![UNWRITTEN; length];
-        let answer = record.write(&self.state, &mut slice);
-        told_of_slice(answer, &slice)
+        let state = state_in(self.lent_words(&self.words));
+        let reply = reply(no_line(record.write(&state, &mut slice)));
+        self.told_of_slice(reply, 3, &slice)
+    }
+
+    /// The same with the bytes written in front of the buffer.
+    fn frames(&self, entries: usize, length: usize) -> Told {
+        let mut buffer = vec![UNWRITTEN; length];
+        let state = state_in(self.lent_words(&self.words));
+        let list = &self.tables.list[..entries.min(KEPT.employers)];
+        let reply = match frames::write(&state, list, &mut buffer) {
+            Ok(written) => [0, 0, 0, written as u64],
+            Err(number) => [number.into(), 0, 0, 0],
+        };
+        self.told_of_slice(reply, 4, &buffer)
+    }
+
+    /// So many numbers of the answer; then the slice, byte for byte, LF as a slash.
+    fn told_of_slice(&self, reply: Reply, numbers: usize, slice: &[u8]) -> Told {
+        let told = printed(&self.answered(reply)[..numbers]);
+        let slashed = |byte: &u8| if *byte == b'\n' { b'/' } else { *byte };
+        let slice: Vec<u8> = slice.iter().map(slashed).collect();
+        Told {
+            number: reply[0] as u8,
+            line: [told.as_bytes(), b"|", &slice, b"\n"].concat(),
+        }
     }
 
     fn alter(&mut self, altered: &Alteration) {
@@ -131,59 +221,26 @@ fn no_line(refusal: Answer) -> LineAnswer {
     LineAnswer { taken: 0, refusal }
 }
 
-/// Number, line, column and bytes taken; the state; then the tables.
-fn told(answer: LineAnswer, state: &State, tables: String) -> Told {
+fn reply(answer: LineAnswer) -> Reply {
     let refusal = answer.refusal.unwrap_or(Refusal::new(0, 0, 0));
-    let reply = [
+    [
         refusal.number.into(),
         refusal.line,
         refusal.column,
         answer.taken as u64,
-    ];
-    let (reply, state) = (printed(&reply), printed(&numbers_of(state)));
-    Told {
-        number: refusal.number,
-        line: format!("{reply}|{state}{tables}\n").into_bytes(),
-    }
+    ]
 }
 
-/// Number, line and column; then the slice, byte for byte.
-fn told_of_slice(answer: Answer, slice: &[u8]) -> Told {
-    let refusal = answer.unwrap_or(Refusal::new(0, 0, 0));
-    let reply = printed(&[refusal.number.into(), refusal.line, refusal.column]);
-    Told {
-        number: refusal.number,
-        line: [reply.as_bytes(), b"|", slice, b"\n"].concat(),
+/// "71: [...] nothing changed", "72: [...] nothing changed": then no word is written.
+fn put_back(reply: Reply, state: &State, words: &mut Words) {
+    if !matches!(reply[0], 71 | 72) {
+        *words = words_of(state);
     }
 }
 
 /// A blank behind each number.
 fn printed(numbers: &[u64]) -> String {
     numbers.iter().map(|number| format!("{number} ")).collect()
-}
-
-/// A state's numbers in the order in which they are printed.
-fn numbers_of(state: &State) -> [u64; 17] {
-    let refusal = refusal_held(state.standing);
-    [
-        standing_number(state.standing),
-        refusal.number.into(),
-        refusal.line,
-        refusal.column,
-        state.lines_read,
-        state.held.year,
-        state.held.month,
-        state.quarter_of_a.year,
-        state.quarter_of_a.month,
-        state.open.fein,
-        state.open.says_s_follow.into(),
-        state.open.s,
-        state.open.cents,
-        state.s,
-        state.employers,
-        state.cents,
-        state.open.ids_in_use,
-    ]
 }
 
 /// Zeros at the end of a table are left out.
@@ -334,6 +391,46 @@ mod tests {
             format!("0 0 0 |{f}{}", " ".repeat(235)),
             "83 0 0 |".to_string(),
             "72 0 0 0 |3 0 0 0 5 2026 3 2026 3 12345678 1 2 123500 2 1 123500 2 ||".to_string(),
+        ];
+        assert_eq!(printed, wanted);
+    }
+
+    /// Words that tell no walk, a flag of 2, a line that is too large; and what is lent short.
+    #[test]
+    fn words_and_what_is_lent() {
+        let printed = printed_for(&[
+            command("O02026060403"),
+            command("N0000000000000000000007"),
+            command("E0403"),
+            command("RT005"),
+            command("N0000000000000000000006"),
+            command("N0100000000000000000009"),
+            command("L0403|"),
+            command("N0100000000000000000044"),
+            command("N0200000000004294967299"),
+            command("N1000000000000000000002"),
+            command("K201"),
+            command("E0403"),
+            command("F00018"),
+            command("K160"),
+            command("E0403"),
+            command("O02026060403"),
+            command("F00017"),
+            command("K174"),
+            command("F00016"),
+        ]);
+        let refused = "6 44 4294967295 0 0 2026 6 0 0 0 1 0 0 0 0 0 0 ||";
+        let wanted = [
+            "0 0 0 0 |0 0 0 0 0 2026 6 0 0 0 0 0 0 0 0 0 0 ||".to_string(),
+            "72 0 0 0 |7 0 0 0 0 2026 6 0 0 0 0 0 0 0 0 0 0 ||".to_string(),
+            "72 0 0 |.....".to_string(),
+            "72 0 0 0 |6 9 0 0 0 2026 6 0 0 0 0 0 0 0 0 0 0 ||".to_string(),
+            format!("44 999 999 999 |{refused}"),
+            "0 999 999 999 |FF2CFFFFFFFF0000/.".to_string(),
+            format!("72 999 999 999 |{refused}"),
+            format!("72 999 999 999 |{refused}"),
+            "72 999 999 999 |.................".to_string(),
+            "88 0 0 0 |................".to_string(),
         ];
         assert_eq!(printed, wanted);
     }

@@ -1,4 +1,4 @@
-//! Scripts for the program `calls`, and what it must print.
+//! Scripts for the program `tests/c/calls.c`, and what it must print.
 //!
 //! A script is made of scenes, each of a few commands that belong together: fixed ones, which come
 //! in every script that is long enough, and others by chance.
@@ -7,17 +7,19 @@ mod afterwards;
 mod broken;
 mod calls;
 mod chance;
+mod frames;
 mod handed_on;
 mod lengths;
-mod moments;
-mod near;
+pub mod moments;
+pub mod near;
 mod records;
 mod totals;
 mod unfit;
+mod words;
 mod writing;
 
 use crate::calendar::Quarter;
-use crate::command::{Alteration, Command};
+use crate::command::{Alteration, Command, Lent};
 use crate::layout::LENGTH;
 use crate::meaning::Room;
 use crate::program::{Program, KEPT};
@@ -25,14 +27,15 @@ use crate::rng::Rng;
 use crate::tables::Tables;
 use crate::tally::Numbers;
 use crate::walk::State;
+use crate::words::{state_in, words_of, Words};
 use crate::write::Written;
 use moments::Moment;
 
-/// The room that the program has for a script.
-pub const LONGEST: usize = 2_000_000;
+/// No script has more bytes.
+pub const LONGEST: usize = 3_000_000;
 
 /// The numbers that no file gets: of them each script has enough.
-pub const PROMISED: [u8; 6] = [71, 72, 80, 81, 82, 83];
+pub const PROMISED: [u8; 8] = [71, 72, 80, 81, 82, 83, 87, 88];
 
 /// While there are fixed scenes left, so many of them come to each one by chance.
 const FIXED_TO_CHANCE: usize = 4;
@@ -86,6 +89,8 @@ fn fixed_scenes() -> Vec<Scene> {
     broken::add(&mut scenes);
     writing::add(&mut scenes);
     handed_on::add(&mut scenes);
+    frames::add(&mut scenes);
+    words::add(&mut scenes);
     scenes
 }
 
@@ -119,7 +124,8 @@ impl Script {
         if let Some(told) = self.program.run(&read) {
             self.numbers.count(told.number);
             self.answered = told.number;
-            self.calls += u64::from(!matches!(read, Command::Write { .. }));
+            let writes = matches!(read, Command::Write { .. } | Command::Frames { .. });
+            self.calls += u64::from(!writes);
             self.told.extend(told.line);
         }
     }
@@ -153,8 +159,32 @@ impl Script {
         self.add(Command::Write { record, length });
     }
 
+    fn frames(&mut self, entries: usize, length: usize) {
+        self.add(Command::Frames { entries, length });
+    }
+
+    fn word(&mut self, at: usize, number: u64) {
+        self.add(Command::Word { at, number });
+    }
+
+    /// What the calls to come are lent of state and answer.
+    fn lend(&mut self, lent: Lent) {
+        if lent != self.program.lent {
+            self.add(Command::Lend(lent));
+        }
+    }
+
     fn state(&self) -> State {
-        self.program.state
+        state_in(&self.program.words)
+    }
+
+    /// The state, if no word was altered to more than the columns of a command hold.
+    fn told_state(&self) -> Option<State> {
+        Some(self.state()).filter(Command::tells)
+    }
+
+    fn words(&self) -> Words {
+        self.program.words
     }
 
     fn tables(&self) -> &Tables {
@@ -162,7 +192,7 @@ impl Script {
     }
 
     fn set_state(&mut self, state: State) {
-        if state != self.state() {
+        if words_of(&state) != self.program.words {
             self.add(Command::State(state));
         }
     }
@@ -199,10 +229,10 @@ mod tests {
     use crate::tally::answers;
 
     #[test]
-    fn scripts_of_6000_calls() {
+    fn scripts_of_9000_calls() {
         for seed in 1..=5 {
-            let script = make(seed, 6_000);
-            assert!(script.calls >= 6_000);
+            let script = make(seed, 9_000);
+            assert!(script.calls >= 9_000);
             assert!(script.text.len() <= LONGEST, "{}", script.text.len());
             assert_eq!(script.fixed_scenes_left, 0);
             assert_eq!(script.numbers.check(PROMISED), Ok(()));

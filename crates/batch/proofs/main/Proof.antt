@@ -1,19 +1,84 @@
--- `batch::main` ends; the buffer and both tables have the lengths they began with.
-use mathlib.Core.Path.{_≡_}
-use borrow.Author.Needs.{needs}
-use lib.ListN.{length}
-use Rattle.batch.proofs.main.Statement.{statement}
-use Rattle.batch.proofs.main.Tie as tie
+-- Every step of `batch::main` is allowed, and it ends: a walk of its MIR, by hand. The arrays are lent to the one call for good.
+use mathlib.Core.Path.{refl}
+use Prim.Native.Nat.{ℕ}
+use mathlib.Core.List.{[], _∷_}
+use lib.Dec.{lit<}
+use lib.ListN.{replicate}
+use denote.Builtin.{u8, u32}
+use denote.Plain.{uint-lawful}
+use denote.Struct.Laws as LL
+use Rattle.tables.specs.Tables.{noEmployer}
+use Rattle.tables.proofs.Employer as T
+use Rattle.tables.proofs.Employer.Laws as T′
+use Rattle.tables.proofs.Entries.{at-rest}
+use Rattle.tables.proofs.Walk.{URA, Heap, Atoms, Given, Memory, Routine, Fun, SProp, Env, Tables, Val, Sq, Triple, Places, Ends, Exit, finishes, proves, locals, envOf, lets-go, var, sets, receives, big-lit, Asked, held, asks, unsaid}
+use Rattle.tables.proofs.Walk.{typed-array, array-at, agg, rep, addr, from, stop, lit, unit-lit, none, fullShare, w8, w32, vint, vunit, spotOf, givenOf, tables, tablesOf, fmOf, runs, atRet}
+use Rattle.tables.proofs.Walk.{_$_, !, by, move, look, of-opd, and-then, no-more, returns, nothing-makes, sliceVal, cited}
+use Rattle.ack.proofs.Programs.{Sizes, lends-arrays, arrays-back}
+use Rattle.batch.proofs.Called.{runs as run-call}
+use Rattle.batch.proofs.run.Symbol.{name as #run, routine as run-routine}
+use Rattle.batch.proofs.run.Met as run-met
+use Rattle.batch.proofs.main as f
+use Rattle.batch.proofs.main.Code as code
+use Rattle.batch.proofs.main.Key.{name as #main}
+use Rattle.batch.proofs.main.Statement as stated
 
-abbrev Inv : tie.InvT-loop
-Inv buf₀ ids₀ list₀ cases₀ buf ids list cases = (65536 ≡ length buf) × (8192 ≡ length ids) × (1024 ≡ length list)
+-- how many elements the arrays have
+abbrev sizes : Sizes
+sizes = record { n₀ = 65536; n₁ = 8192; n₂ = 1024; n₃ = 35875; room₀ = (lit< tt, lit< tt); room₁ = (lit< tt, lit< tt); room₂ = (lit< tt, lit< tt); room₃ = (lit< tt, lit< tt) }
 
-abbrev μ : tie.MeasureT-loop
-μ buf₀ ids₀ list₀ cases₀ buf ids list cases = cases
+abbrev ends : Ends (f.ended .signature .params) (f.ended .kept)
+ends = tt
 
-pub main-spec : {M : Type 1} → statement M
-main-spec =
-    tie.close
-    (tie.spec
-    Inv μ (λ c κs. search needs) (λ c. search needs) (λ c. search needs) (λ c. search needs) (λ c. search needs) (λ c κs. search needs)
-    (λ c. search needs) (λ c. search needs) (λ c. search needs) (λ c. search needs) (λ c. search needs))
+module _ {M : Type 1} (𝓤 : URA M) (H : Heap 𝓤) (A : Atoms 𝓤) (W : Given 𝓤 H A) (mem : Memory → SProp 𝓤) (run : Routine → Fun 𝓤) (𝓣 : Tables 𝓤 H) (known : Triple 𝓤 (𝓣 .C #run) (Asked (run-call W mem run))) (ps : Places (code.function .locals)) where
+  abbrev En : Env 𝓤 H
+  En = envOf (code.function .locals) ps
+
+  -- where a local lies
+  abbrev at : ℕ → ℕ
+  at i = spotOf 𝓤 H En i .1
+
+  abbrev y : Exit W f.ended ends (f.clauses 𝓤 H A mem run) .Ghost
+  y = ((tt, tt, tt, tt, tt), tt)
+
+  abbrev Post : Val → SProp 𝓤
+  Post = Exit W f.ended ends (f.clauses 𝓤 H A mem run) .post y
+
+  -- [_14 at 0; _13 at 2; _12 at 4; _11 at 6; _10 at 8; _9 at 10; _8 at 12; _7 at 14; _6 at 16; _5 at 18; _4 at 20; _3 at 22; _2 at 24; _1 at 26; _0 at 28]
+  walk : Sq W (locals En (none ∷ []) []) (runs (𝓣 .C) (𝓣 .Λ) En (code.function .body) (atRet En Post))
+  walk =
+      sets ! (rep ! 65536 (lit ! tt)) 26 refl (typed-array u8 0 (vint w8 0) (refl, lit< tt) W (uint-lawful 𝓤 H A W w8) 65536) $ sets ! (rep ! 8192 (lit ! tt)) 24 refl (typed-array u32 0 (vint w32 0) (refl, lit< tt) W (uint-lawful 𝓤 H A W w32) 8192) $
+      sets ! (agg ! (and-then ! (lit ! tt) (and-then ! (lit ! tt) (and-then ! (lit ! tt) (no-more !))))) 22 refl (LL.lawful T.the-type T′.the-laws 𝓤 H A W .typed noEmployer _ at-rest .0) $
+      sets ! (rep ! 1024 (var ! 22 refl)) 20 refl (typed-array T.the-row noEmployer (T′.lowered noEmployer) at-rest W (LL.lawful T.the-type T′.the-laws 𝓤 H A W) 1024) $
+      sets ! (rep ! 35875 (lit ! tt)) 18 refl (typed-array u8 0 (vint w8 0) (refl, lit< tt) W (uint-lawful 𝓤 H A W w8) 35875) $
+      sets ! (addr ! (from ! (stop !))) 14 refl (tt, tt) $ sets ! (agg ! (and-then ! (var ! 14 refl) (and-then ! (big-lit ! (record { fits = lit< tt })) (no-more !)))) 12 refl (tt, (tt, (record { fits = lit< tt }, tt))) $
+      sets ! (addr ! (from ! (stop !))) 10 refl (tt, tt) $ sets ! (agg ! (and-then ! (var ! 10 refl) (and-then ! (big-lit ! (record { fits = lit< tt })) (no-more !)))) 8 refl (tt, (tt, (record { fits = lit< tt }, tt))) $
+      sets ! (addr ! (from ! (stop !))) 6 refl (tt, tt) $ sets ! (agg ! (and-then ! (var ! 6 refl) (and-then ! (big-lit ! (record { fits = lit< tt })) (no-more !)))) 4 refl (tt, (tt, (record { fits = lit< tt }, tt))) $
+      sets ! (addr ! (from ! (stop !))) 2 refl (tt, tt) $ sets ! (agg ! (and-then ! (var ! 2 refl) (and-then ! (big-lit ! (record { fits = lit< tt })) (no-more !)))) 0 refl (tt, (tt, (record { fits = lit< tt }, tt))) $
+      move ! (26 ∷ 24 ∷ 20 ∷ 18 ∷ []) $ lends-arrays sizes (at 1) (at 2) (at 4) (at 5) ! tt (λ ν₀ ν₁ ν₂ ν₃ γ₀ γ₁ γ₂ γ₃.
+      -- [four tokens; the slices; the lender's parts; _14 at 12; …; _6 at 28; that _5 dies at 30, and _4 at 31; _3 at 32; that _2 dies at 34, and _1 at 35; _0 at 36]
+      asks ! (run-call W mem run) known (fmOf 𝓤 H (W .laws) 𝓣) (
+        (
+          (ν₀ ∷ [], (ν₁ ∷ [], (ν₂ ∷ [], (ν₃ ∷ [], tt)))),
+          (fullShare, (fullShare, (fullShare, (fullShare, tt)))),
+          tt,
+          (array-at (at 1) γ₀ (replicate 65536 0), (array-at (at 2) γ₁ (replicate 8192 0), (array-at (at 4) γ₂ (replicate 1024 noEmployer), (array-at (at 5) γ₃ (replicate 35875 0), tt)))),
+          (sliceVal (at 1, 0) 65536 ∷ [], (sliceVal (at 2, 0) 8192 ∷ [], (sliceVal (at 4, 0) 1024 ∷ [], (sliceVal (at 5, 0) 35875 ∷ [], tt)))),
+        ),
+        tt,
+      ) tt
+      8 (held, (held, (held, (held, tt)))) refl (and-then ! (var ! 24 refl) (and-then ! (var ! 20 refl) (and-then ! (var ! 16 refl) (and-then ! (var ! 12 refl) (no-more !))))) (λ _ ws _ _.
+      receives ! 28 refl (tt, tt) $ arrays-back sizes (at 1) (at 2) (at 4) (at 5) ! tt γ₀ γ₁ γ₂ γ₃ (ws .0) (ws .1 .0) (ws .1 .1 .0) (ws .1 .1 .1 .0) (
+      -- [_1; _2; _4; _5; _14 at 4; …; _6 at 20; that _5 dies at 22, and _4 at 23; _3 at 24; that _2 dies at 26, and _1 at 27; _0 at 28]: each goes back to its place
+      move ! (4 ∷ 5 ∷ 6 ∷ 7 ∷ 8 ∷ 9 ∷ 10 ∷ 11 ∷ 12 ∷ 13 ∷ 14 ∷ 15 ∷ 16 ∷ 17 ∷ 18 ∷ 19 ∷ 20 ∷ 21 ∷ 3 ∷ 22 ∷ 2 ∷ 23 ∷ 24 ∷ 25 ∷ 1 ∷ 26 ∷ 0 ∷ []) $
+      sets ! (of-opd ! (unit-lit !)) 28 refl (tt, tt) $ returns ! (look ! 28 refl) $ lets-go ! 0 refl $
+      by ! (finishes W f.ended ends (f.clauses 𝓤 H A mem run) y vunit tt tt tt (Unit {0}) (unsaid 𝓤) tt (nothing-makes 𝓤 H A W tt (vunit ∷ []) refl)))))
+
+pub main-spec : {M : Type 1} → stated.statement M
+unfolding code.routine tablesOf
+main-spec 𝓤 H 𝓜 𝓖 𝓡 =
+    proves 𝓤 H 𝓜 𝓖 𝓡 f.ended ends (f.clauses 𝓤 H (𝓖 .A) (𝓜 .mem) (𝓡 .run)) code.env #main code.function (code.unfolded 𝓤 H 𝓜 𝓡) (λ κs. tt) (λ κs. tt)
+    (λ κs qs bounds a g are. let W = givenOf 𝓤 H 𝓜 𝓖 in (
+      tt,
+      λ ps. walk 𝓤 H (𝓖 .A) W (𝓜 .mem) (𝓡 .run) (tablesOf 𝓤 H 𝓜 (tables 𝓤 H 𝓜 𝓡 code.env)) (cited 𝓤 H (Asked (run-call W (𝓜 .mem) (𝓡 .run))) 𝓜 𝓡 code.env #run run-routine code.calls-batch·run (run-met.met 𝓤 H 𝓜 𝓖 𝓡)) ps,
+    ))

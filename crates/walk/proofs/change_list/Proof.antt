@@ -1,32 +1,133 @@
--- `walk::change_list` meets its contract.
-use borrow.Author.Needs.{needs}
-use Rattle.tables.proofs.list.close_entry.Reads as close-entry-reads
-use Rattle.tables.proofs.list.open_entry.Reads as open-entry-reads
-use Rattle.tables.proofs.list.zero_first.Reads as zero-first-reads
-use Rattle.tables.specs.Laws.{entries-length}
-use Rattle.tables.specs.Tables.{entriesOf}
-use Rattle.walk.proofs.change_list.Statement.{statement}
-use Rattle.walk.proofs.change_list.Tie as tie
-use Rattle.walk.proofs.writes_of.Reads as writes-of-reads
-use Rattle.walk.specs.Writes.{writes-make}
+-- `walk::change_list` meets its contract: a walk of its MIR, by hand. The list is lent for each call, and given to the last for good.
+use mathlib.Core.Path.{_≡_, refl, sym, _∙_, ap}
+use mathlib.Core.List.{[], _∷_, List}
+use lib.ListN.{length, getD, set}
+use denote.Enum.Laws as EL
+use denote.Struct.Laws as LL
+use Rattle.tables.specs.declared.Employer.{Employer}
+use Rattle.tables.specs.Laws.{closed-is}
+use Rattle.tables.specs.Tables.{wiped, noEmployer, opened, closed, closedAt}
+use Rattle.tables.proofs.Employer as T
+use Rattle.tables.proofs.Employer.Laws as T′
+use Rattle.tables.proofs.Called.{opened-entry, closed-entry, put, entry-at, zero-first}
+use Rattle.tables.proofs.Walk.{URA, Heap, Atoms, Given, Memory, Routine, Fun, SProp, Lft, Share, Env, Tables, Val, RefT, Room, Is, Sq, Triple, Places, Ends, gone, given-slice}
+use Rattle.tables.proofs.Walk.{Exit, finishes, proves, locals, envOf, lets-go, lose, var, inner, sets, receives, replaces, relends, Asked, held, made, asks, holding, named-as}
+use Rattle.tables.proofs.Walk.{lends-shared, shared-back, lends-again, comes-back, measures, none, some, fullShare, named, w64, vunit, vint, flft, givenOf, tables, tablesOf, FmC, fmOf, runs, atRet}
+use Rattle.tables.proofs.Walk.{‵, _$_, !, by, look, unit-lit, of-opd, and-then, no-more, returns, whole, sub, uint-makes, nothing-makes, sliceVal, slice-vals, MutSlice, mut-slice-tells, plain, cited}
+use Rattle.tables.proofs.list.opened_entry.Symbol.{name as #opened-entry, routine as opened-entry-routine}
+use Rattle.tables.proofs.list.opened_entry.Met as opened-entry-met
+use Rattle.tables.proofs.list.closed_entry.Symbol.{name as #closed-entry, routine as closed-entry-routine}
+use Rattle.tables.proofs.list.closed_entry.Met as closed-entry-met
+use Rattle.tables.proofs.list.put.Symbol.{name as #put, routine as put-routine}
+use Rattle.tables.proofs.list.put.Met as put-met
+use Rattle.tables.proofs.list.entry_at.Symbol.{name as #entry-at, routine as entry-at-routine}
+use Rattle.tables.proofs.list.entry_at.Met as entry-at-met
+use Rattle.tables.proofs.list.zero_first.Symbol.{name as #zero-first, routine as zero-first-routine}
+use Rattle.tables.proofs.list.zero_first.Met as zero-first-met
+use Rattle.step.specs.Steps.{listAfter}
+use Rattle.step.specs.declared.Change.{Change}
+use Rattle.step.proofs.Change as C
+use Rattle.step.proofs.Change.Laws as C′
+use Rattle.walk.specs.declared.Writes.{Writes}
+use Rattle.walk.specs.Writes.{writesOf, madeBy, writes-make}
+use Rattle.walk.proofs.Writes as P
+use Rattle.walk.proofs.Writes.Laws as P′
+use Rattle.walk.proofs.Values.{change-val}
+use Rattle.walk.proofs.Called.{writes-of}
+use Rattle.walk.proofs.writes_of.Symbol.{name as #writes-of, routine as writes-of-routine}
+use Rattle.walk.proofs.writes_of.Met as writes-of-met
+use Rattle.walk.proofs.change_list as f
+use Rattle.walk.proofs.change_list.Code as code
+use Rattle.walk.proofs.change_list.Key.{name as #change-list}
+use Rattle.walk.proofs.change_list.Statement as stated
 
-writes-of-requires : tie.Need-writes-of-requires
-writes-of-requires c κs = search needs
+abbrev ends : Ends (f.ended .signature .params) (f.ended .kept)
+ends = (given-slice 0 tt (plain (λ _. T.the-row)), (gone (λ κs x f. refl), tt))
 
-zero-first-requires : tie.Need-zero-first-requires
-zero-first-requires c κs = search needs
+-- what the callees say comes to the contract
+comes : (change : Change) (w : Writes) (ys l₁ l₂ l₃ : List Employer) (e old e′ : Employer) → w ≡ writesOf change (length ys) → l₁ ≡ wiped noEmployer (w .zeroed) ys → e ≡ opened (w .fein) → l₂ ≡ set l₁ (w .«opened_at») e
+    → old ≡ getD l₂ (w .«closed_at») noEmployer → e′ ≡ closed old (w .count) (w .cents) → l₃ ≡ set l₂ (w .«closed_at») e′ → l₃ ≡ listAfter change ys
+comes change w ys l₁ l₂ l₃ e old e′ iw i₁ ie i₂ io ie′ i₃ =
+    i₃ ∙ ap (set l₂ (w .«closed_at»)) (ie′ ∙ ap (λ (o : Employer). closed o (w .count) (w .cents)) io) ∙ sym (closed-is (w .«closed_at») (w .count) (w .cents) l₂)
+    ∙ ap (closedAt (w .«closed_at») (w .count) (w .cents)) (i₂ ∙ ap (λ (l : List Employer). set l (w .«opened_at») e) i₁ ∙ ap (set (wiped noEmployer (w .zeroed) ys) (w .«opened_at»)) ie)
+    ∙ ap (λ (v : Writes). madeBy v ys) iw ∙ writes-make change ys
 
-open-entry-requires : tie.Need-open-entry-requires
-open-entry-requires c κs = search needs
+module _ {M : Type 1} (𝓤 : URA M) (H : Heap 𝓤) (A : Atoms 𝓤) (W : Given 𝓤 H A) (mem : Memory → SProp 𝓤) (run : Routine → Fun 𝓤) (𝓣 : Tables 𝓤 H) (known-writes : Triple 𝓤 (𝓣 .C #writes-of) (Asked (writes-of W mem run)))
+    (known-zero : Triple 𝓤 (𝓣 .C #zero-first) (Asked (zero-first W mem run))) (known-opened : Triple 𝓤 (𝓣 .C #opened-entry) (Asked (opened-entry W mem run))) (known-closed : Triple 𝓤 (𝓣 .C #closed-entry) (Asked (closed-entry W mem run)))
+    (known-put : Triple 𝓤 (𝓣 .C #put) (Asked (put W mem run))) (known-entry : Triple 𝓤 (𝓣 .C #entry-at) (Asked (entry-at W mem run)))
+    (κ : Lft) (q : Share) (x : RefT (List Employer)) (change : Change) (room : Room T.the-row (length (x .now))) (change-is : Is C.the-row change (change-val change ∷ [])) (ps : Places (code.function .locals)) where
+  abbrev ys : List Employer
+  ys = x .now
 
-close-entry-requires : tie.Need-close-entry-requires
-close-entry-requires c κs = search needs
+  abbrev s : Val
+  s = sliceVal (x .ptr) (length ys)
 
-returns : tie.Need-returns
-returns c = rw (c .before .close-entry .ensures, c .before .before .before .before .open-entry .ensures, c .before .before .before .before .before .before .before .zero-first .ensures, c .before .before .before .before .before .before .before .before .before .writes-of .ensures, ← entries-length (c .before .before .before .before .before .before .before .before .before .before .args .list .now)) (writes-make (c .before .before .before .before .before .before .before .before .before .before .args .change) (entriesOf (c .before .before .before .before .before .before .before .before .before .before .args .list .now)))
+  abbrev En : Env 𝓤 H
+  En = envOf (code.function .locals) ps
 
-pub change-list-spec : {M : Type 1} → statement M
-change-list-spec =
-    tie.close
-    (tie.spec
-    writes-of-requires zero-first-requires open-entry-requires close-entry-requires (λ c. search needs) returns)
+  abbrev y : Exit W f.ended ends (f.clauses 𝓤 H A mem run) .Ghost
+  y = (((κ, tt), (q, tt), tt, (x, (change, tt)), (s ∷ [], (change-val change ∷ [], tt))), tt)
+
+  abbrev Post : Val → SProp 𝓤
+  Post = Exit W f.ended ends (f.clauses 𝓤 H A mem run) .post y
+
+  abbrev fm : FmC 𝓤 H (W .laws) (𝓣 .C)
+  fm = fmOf 𝓤 H (W .laws) 𝓣
+
+  -- [the token; the list; _15 at 2; _14 at 4; _13 at 6; _12 at 8; _11 at 10; _10 at 12; _9 at 14; _8 at 16; _7 at 18; _6 at 20; _5 at 22; _4 at 24; _3 at 26; _2 at 28; _1 at 30; _0 at 32]
+  walk : Sq W (‵ (flft κ q) ∷ ‵ (MutSlice (named 0) κ T.the-row .own x (s ∷ [])) ∷ locals En (none ∷ some s ∷ some (change-val change) ∷ []) []) (runs (𝓣 .C) (𝓣 .Λ) En (code.function .body) (atRet En Post))
+  walk =
+      sets ! (of-opd ! (inner ! 30 refl (sub ! 1 refl (whole !)))) 22 refl (tt, record { fits = room .0 }) $
+      asks ! (writes-of W mem run) known-writes fm ((tt, tt, tt, (change, (length ys, tt)), (change-val change ∷ [], (vint w64 (length ys) ∷ [], tt))), tt) tt
+      0 (made (EL.makes C.the-type C′.the-plain 𝓤 H A change _ change-is), (made (uint-makes 𝓤 H A W w64 (length ys) _ (refl, room .0)), tt)) refl (and-then ! (var ! 28 refl) (and-then ! (var ! 22 refl) (no-more !))) (λ w _ all w-is.
+      let fields = LL.owed P.the-type P′.the-laws w _ w-is in
+      receives ! 26 refl (LL.lawful P.the-type P′.the-laws 𝓤 H A W .typed w _ w-is .0) $ relends ! 30 18 16 (room .0) refl refl refl refl refl refl refl refl $
+      lends-again ! tt T.the-row x (s ∷ []) (λ p ν δ.
+      -- [ν's token; the list; what is kept; _15 at 3; …]
+      asks ! (zero-first W mem run) known-zero fm (((ν ∷ [], tt), (fullShare, tt), tt, (named-as x δ, (w .zeroed, tt)), (s ∷ [], (vint w64 (w .zeroed) ∷ [], tt))), tt) tt
+      2 (held, (made (uint-makes 𝓤 H A W w64 (w .zeroed) _ (fields .0)), tt)) refl (and-then ! (var ! 17 refl) (and-then ! (inner ! 27 refl (sub ! 0 refl (whole !))) (no-more !))) (λ _ zs zeroed _.
+      receives ! 21 refl (tt, tt) $ comes-back ! tt T.the-row x (s ∷ []) δ (zs .0) p (λ same₁ p₁.
+      relends ! 30 14 12 (room .0) refl refl refl refl refl refl refl refl $
+      asks ! (opened-entry W mem run) known-opened fm ((tt, tt, tt, (w .fein, tt), (vint w64 (w .fein) ∷ [], tt)), tt) tt
+      0 (made (uint-makes 𝓤 H A W w64 (w .fein) _ (fields .1 .1 .0)), tt) refl (and-then ! (inner ! 26 refl (sub ! 2 refl (whole !))) (no-more !)) (λ e _ begun e-is.
+      receives ! 10 refl (LL.lawful T.the-type T′.the-laws 𝓤 H A W .typed e _ e-is .0) $
+      lends-again ! tt T.the-row (holding x (zs .0)) (s ∷ []) (λ p₁ ν δ.
+      asks ! (put W mem run) known-put fm (((ν ∷ [], tt), (fullShare, tt), tt, (named-as (holding x (zs .0)) δ, (w .«opened_at», (e, tt))), (s ∷ [], (vint w64 (w .«opened_at») ∷ [], (T′.lowered e ∷ [], tt)))), tt) tt
+      2 (held, (made (uint-makes 𝓤 H A W w64 (w .«opened_at») _ (fields .1 .0)), (made (LL.makes T.the-type T′.the-plain 𝓤 H A e _ e-is), tt))) refl
+      (and-then ! (var ! 13 refl) (and-then ! (inner ! 27 refl (sub ! 1 refl (whole !))) (and-then ! (var ! 11 refl) (no-more !)))) (λ _ zs₂ wrote _.
+      replaces ! 21 refl (tt, tt) $ comes-back ! tt T.the-row (holding x (zs .0)) (s ∷ []) δ (zs₂ .0) p₁ (λ same₂ p₂.
+      relends ! 30 8 6 (room .0) refl refl refl refl refl refl refl refl $
+      lends-shared ! tt T.the-row (holding x (zs₂ .0)) (s ∷ []) (λ p₂ ν δ.
+      asks ! (entry-at W mem run) known-entry fm (((ν ∷ [], tt), (fullShare, tt), tt, (named-as (holding x (zs₂ .0)) δ, (w .«closed_at», tt)), (s ∷ [], (vint w64 (w .«closed_at») ∷ [], tt))), tt) tt
+      2 (held, (made (uint-makes 𝓤 H A W w64 (w .«closed_at») _ (fields .1 .1 .1 .0)), tt)) refl (and-then ! (var ! 7 refl) (and-then ! (inner ! 27 refl (sub ! 3 refl (whole !))) (no-more !))) (λ old _ found old-is.
+      -- [ν's token; what is kept; _15 at 2; …]
+      receives ! 24 refl (LL.lawful T.the-type T′.the-laws 𝓤 H A W .typed old _ old-is .0) $ shared-back ! tt T.the-row (holding x (zs₂ .0)) (s ∷ []) p₂ $
+      relends ! 30 4 2 (room .0) refl refl refl refl refl refl refl refl $
+      asks ! (closed-entry W mem run) known-closed fm ((tt, tt, tt, (old, (w .count, (w .cents, tt))), (T′.lowered old ∷ [], (vint w64 (w .count) ∷ [], (vint w64 (w .cents) ∷ [], tt)))), tt) tt
+      0 (made (LL.makes T.the-type T′.the-plain 𝓤 H A old _ old-is), (made (uint-makes 𝓤 H A W w64 (w .count) _ (fields .1 .1 .1 .1 .0)), (made (uint-makes 𝓤 H A W w64 (w .cents) _ (fields .1 .1 .1 .1 .1 .0)), tt))) refl
+      (and-then ! (var ! 24 refl) (and-then ! (inner ! 26 refl (sub ! 4 refl (whole !))) (and-then ! (inner ! 26 refl (sub ! 5 refl (whole !))) (no-more !)))) (λ e′ _ ended e′-is.
+      replaces ! 10 refl (LL.lawful T.the-type T′.the-laws 𝓤 H A W .typed e′ _ e′-is .0) $
+      asks ! (put W mem run) known-put fm (((κ, tt), (q, tt), tt, (holding x (zs₂ .0), (w .«closed_at», (e′, tt))), (s ∷ [], (vint w64 (w .«closed_at») ∷ [], (T′.lowered e′ ∷ [], tt)))), tt) tt
+      2 (held, (made (uint-makes 𝓤 H A W w64 (w .«closed_at») _ (fields .1 .1 .1 .0)), (made (LL.makes T.the-type T′.the-plain 𝓤 H A e′ _ e′-is), tt))) refl
+      (and-then ! (var ! 2 refl) (and-then ! (inner ! 26 refl (sub ! 3 refl (whole !))) (and-then ! (var ! 10 refl) (no-more !)))) (λ _ zs₃ put-back _.
+      -- [the token; what says the last list; _15 at 2; …]
+      replaces ! 20 refl (tt, tt) $ sets ! (of-opd ! (unit-lit !)) 32 refl (tt, tt) $ returns ! (look ! 32 refl) $ lets-go ! 2 refl $ measures ! 1 refl (λ same₃.
+      by ! (finishes W f.ended ends (f.clauses 𝓤 H A mem run) y vunit tt (zs₃ .0, (tt, tt)) (same₃ ∙ same₂ ∙ same₁, (tt, tt)) (zs₃ .0 ≡ listAfter change ys) refl
+      (comes change w ys (zs .0) (zs₂ .0) (zs₃ .0) e old e′ all zeroed begun wrote found ended put-back) (nothing-makes 𝓤 H A W tt (vunit ∷ []) refl)))))))))))))))
+
+pub change-list-spec : {M : Type 1} → stated.statement M
+unfolding code.routine tablesOf
+change-list-spec 𝓤 H 𝓜 𝓖 𝓡 =
+    proves 𝓤 H 𝓜 𝓖 𝓡 f.ended ends (f.clauses 𝓤 H (𝓖 .A) (𝓜 .mem) (𝓡 .run)) code.env #change-list code.function (code.unfolded 𝓤 H 𝓜 𝓡)
+    (λ κs. (slice-vals, (EL.vals C.the-type C′.the-laws, tt))) (λ κs. (mut-slice-tells (named 0) (κs .0) T.the-row, (EL.tells C.the-type C′.the-laws, tt)))
+    (λ κs qs bounds a g are. let W = givenOf 𝓤 H 𝓜 𝓖 in (
+      ((tt, (tt, (record { fits = are .0 .0 .1 .0 }, tt))), (EL.lawful C.the-type C′.the-laws 𝓤 H (𝓖 .A) W tt .typed (a .1 .0) _ (are .1 .0) .0, tt)),
+      λ ps. lose ! 2 $ walk 𝓤 H (𝓖 .A) W (𝓜 .mem) (𝓡 .run) (tablesOf 𝓤 H 𝓜 (tables 𝓤 H 𝓜 𝓡 code.env))
+          (cited 𝓤 H (Asked (writes-of W (𝓜 .mem) (𝓡 .run))) 𝓜 𝓡 code.env #writes-of writes-of-routine code.calls-walk·writes-of (writes-of-met.met 𝓤 H 𝓜 𝓖 𝓡))
+          (cited 𝓤 H (Asked (zero-first W (𝓜 .mem) (𝓡 .run))) 𝓜 𝓡 code.env #zero-first zero-first-routine code.calls-tables·list·zero-first (zero-first-met.met 𝓤 H 𝓜 𝓖 𝓡))
+          (cited 𝓤 H (Asked (opened-entry W (𝓜 .mem) (𝓡 .run))) 𝓜 𝓡 code.env #opened-entry opened-entry-routine code.calls-tables·list·opened-entry (opened-entry-met.met 𝓤 H 𝓜 𝓖 𝓡))
+          (cited 𝓤 H (Asked (closed-entry W (𝓜 .mem) (𝓡 .run))) 𝓜 𝓡 code.env #closed-entry closed-entry-routine code.calls-tables·list·closed-entry (closed-entry-met.met 𝓤 H 𝓜 𝓖 𝓡))
+          (cited 𝓤 H (Asked (put W (𝓜 .mem) (𝓡 .run))) 𝓜 𝓡 code.env #put put-routine code.calls-tables·list·put (put-met.met 𝓤 H 𝓜 𝓖 𝓡))
+          (cited 𝓤 H (Asked (entry-at W (𝓜 .mem) (𝓡 .run))) 𝓜 𝓡 code.env #entry-at entry-at-routine code.calls-tables·list·entry-at (entry-at-met.met 𝓤 H 𝓜 𝓖 𝓡))
+          (κs .0) (qs .0) (a .0) (a .1 .0) (are .0 .0 .1) (are .1 .0) ps,
+    ))

@@ -1,98 +1,211 @@
--- `walk::whole` meets its contract.
-use Prim.Native.Nat.{_-_, _≤_}
-use mathlib.Core.Path.{_≡_, sym, ap, _∙_}
+-- `walk::whole` meets its contract: a walk of its MIR, by hand. Opening and each turn lend both tables, and the end call is given them for good.
+use mathlib.Core.Path.{_≡_, refl, sym, _∙_, ap}
+use Prim.Native.Nat.{ℕ, _-_, _≤_, _<_}
 use native.Mathlib.Omega.{arith}
-use borrow.Author.Needs.{needs}
+use mathlib.Core.List.{[], _∷_, List}
+use lib.Dec.{ltb→lt, nltb→le, lit<}
 use lib.ListN.{length, drop}
+use types.Run.{land-last}
+use denote.Builtin.{u8, u32}
+use denote.Enum.Laws as EL
+use denote.Struct.Laws as LL
+use Rattle.calendar.specs.declared.Quarter.{Quarter}
+use Rattle.calendar.proofs.Quarter as Q
+use Rattle.calendar.proofs.Quarter.Laws as Q′
+use Rattle.tables.specs.Room.{tables as tablesOf′}
+use Rattle.tables.specs.declared.Employer.{Employer}
+use Rattle.tables.proofs.Employer as T
+use Rattle.tables.proofs.Walk.{URA, Heap, Atoms, Given, Memory, Routine, Fun, SProp, Lft, Share, Item, Env, Tables, Val, RefT, Room, Is, Sq, Triple, Places, Ends, gone, given-slice}
+use Rattle.tables.proofs.Walk.{Exit, finishes, proves, locals, envOf, lets-go, lose, var, inner, sets, resets, receives, relends, tests, Asked, held, made, asks, asks-last, named-as, holding, twice}
+use Rattle.tables.proofs.Walk.{Nearer, nearer-wf, Turned, lends-again, comes-back, measures, none, some, fullShare, named, w64, vint, flft, givenOf, tables, tablesOf, afterTurn, FmC, fmOf, runs, atRet, anyQ}
+use Rattle.tables.proofs.Walk.{‵, _$_, !, by, move, look, store, forget, stop, from, lit, of-opd, bin, and-then, no-more, first, blocks, loops, again, exec, returns, whole, sub}
+use Rattle.tables.proofs.Walk.{uint-makes, sliceVal, slice-vals, MutSlice, ShrSlice, mut-slice-tells, shr-slice-tells, plain, cited}
 use Rattle.state.specs.Walks.{walkOf}
-use Rattle.step.specs.Steps.{outOf, Out}
-use Rattle.tables.specs.Room.{tables}
-use Rattle.tables.specs.Tables.{entriesOf}
-use Rattle.walk.proofs.end.Reads as end-reads
-use Rattle.walk.proofs.line.Reads as line-reads
-use Rattle.walk.proofs.open.Reads as open-reads
-use Rattle.step.proofs.taken_in.Reads as taken-in-reads
-use Rattle.walk.proofs.whole.Statement.{statement}
-use Rattle.walk.proofs.whole.Tie as tie
-use Rattle.walk.specs.Calls.{calls}
-use Rattle.walk.specs.WholeLaws.{all, whole-means, loop-done, loop-refused, loop-within, loop-taken}
+use Rattle.state.specs.declared.State.{State}
+use Rattle.state.proofs.State as S
+use Rattle.state.proofs.State.Laws as S′
+use Rattle.step.specs.Steps.{Out, outOf}
+use Rattle.step.proofs.Answer as An
+use Rattle.step.proofs.Answer.Laws as An′
+use Rattle.step.proofs.Reply as R
+use Rattle.step.proofs.Reply.Laws as R′
+use Rattle.walk.specs.Calls.{calls, wholeFile}
+use Rattle.walk.specs.WholeLaws.{all, whole-means, loop-done, loop-within, loop-next, next-within}
+use Rattle.walk.proofs.Values.{quarter-val, state-val, answer-val, reply-val, reply-at}
+use Rattle.walk.proofs.Called.{opens, line-at, next-place, ends as end-call}
+use Rattle.walk.proofs.open.Symbol.{name as #open, routine as open-routine}
+use Rattle.walk.proofs.open.Met as open-met
+use Rattle.walk.proofs.line_at.Symbol.{name as #line-at, routine as line-at-routine}
+use Rattle.walk.proofs.line_at.Met as line-at-met
+use Rattle.walk.proofs.next_place.Symbol.{name as #next-place, routine as next-place-routine}
+use Rattle.walk.proofs.next_place.Met as next-place-met
+use Rattle.walk.proofs.end.Symbol.{name as #end, routine as end-routine}
+use Rattle.walk.proofs.end.Met as end-met
+use Rattle.walk.proofs.whole as f
+use Rattle.walk.proofs.whole.Code as code
+use Rattle.walk.proofs.whole.Code.Mir as mirs
+use Rattle.walk.proofs.whole.Key.{name as #whole}
+use Rattle.walk.proofs.whole.Statement as stated
 
-abbrev Inv-loop : tie.InvT-loop
-Inv-loop bytes ids₀ list₀ st₀ at₀ ids list st at =
-    (at ≤ length bytes) × (length ids ≡ length ids₀) × (length list ≡ length list₀)
-    × (calls all 0 (drop at bytes) (walkOf st) (tables ids (entriesOf list)) ≡ calls all 0 bytes (walkOf st₀) (tables ids₀ (entriesOf list₀)))
+abbrev ends : Ends (f.ended .signature .params) (f.ended .kept)
+ends = (gone (λ κs x f. refl), (gone (λ κs x f. refl), (given-slice 1 tt (plain (λ _. u32)), (given-slice 2 tt (plain (λ _. T.the-row)), tt))))
 
-abbrev μ-loop : tie.MeasureT-loop
-μ-loop bytes ids₀ list₀ st₀ at₀ ids list st at = length bytes - at
+module _ {M : Type 1} (𝓤 : URA M) (H : Heap 𝓤) (A : Atoms 𝓤) (W : Given 𝓤 H A) (mem : Memory → SProp 𝓤) (run : Routine → Fun 𝓤) (𝓣 : Tables 𝓤 H) (known-open : Triple 𝓤 (𝓣 .C #open) (Asked (opens W mem run)))
+    (known-line : Triple 𝓤 (𝓣 .C #line-at) (Asked (line-at W mem run))) (known-next : Triple 𝓤 (𝓣 .C #next-place) (Asked (next-place W mem run))) (known-end : Triple 𝓤 (𝓣 .C #end) (Asked (end-call W mem run)))
+    (κ₀ κ₁ κ₂ : Lft) (q₀ q₁ q₂ : Share) (quarter : Quarter) (src : RefT (List ℕ)) (ids : RefT (List ℕ)) (list : RefT (List Employer)) (quarter-is : Is Q.the-row quarter (quarter-val quarter ∷ []))
+    (room₀ : Room u8 (length (src .now))) (room₁ : Room u32 (length (ids .now))) (room₂ : Room T.the-row (length (list .now))) (ps : Places (code.function .locals)) where
+  abbrev s₀ : Val
+  s₀ = sliceVal (src .ptr) (length (src .now))
 
-open-requires : tie.Need-open-requires Inv-loop μ-loop
-open-requires c κs = search needs
+  abbrev s₁ : Val
+  s₁ = sliceVal (ids .ptr) (length (ids .now))
 
-line-requires : tie.Need-line-requires Inv-loop μ-loop
-line-requires c κs = search needs
+  abbrev s₂ : Val
+  s₂ = sliceVal (list .ptr) (length (list .now))
 
-taken-in-requires : tie.Need-taken-in-requires Inv-loop μ-loop
-taken-in-requires c κs = search needs
+  abbrev En : Env 𝓤 H
+  En = envOf (code.function .locals) ps
 
-end-requires : tie.Need-end-requires Inv-loop μ-loop
-end-requires c κs = search needs
+  abbrev y : Exit W f.ended ends (f.clauses 𝓤 H A mem run) .Ghost
+  y = (((κ₀, (κ₁, (κ₂, tt))), (q₀, (q₁, (q₂, tt))), tt, (quarter, (src, (ids, (list, tt)))), (quarter-val quarter ∷ [], (s₀ ∷ [], (s₁ ∷ [], (s₂ ∷ [], tt))))), tt)
 
-same-length : tie.Need-same-length Inv-loop μ-loop
-same-length c = omega (arith, c .before .before .before .end .kept, c .before .before .before .before .before .before .before .before .before .before .before .before .line .kept, c .before .before .before .before .before .before .before .before .before .before .before .before .before .before .before .before .before .loop .inv, c .before .before .before .before .before .before .before .before .before .before .before .before .before .before .before .before .before .before .before .before .before .before .«open» .kept)
+  abbrev Post : Val → SProp 𝓤
+  Post = Exit W f.ended ends (f.clauses 𝓤 H A mem run) .post y
 
-same-length-2 : tie.Need-same-length-2 Inv-loop μ-loop
-same-length-2 c = omega (arith, c .before .before .before .end .kept, c .before .before .before .before .before .before .before .before .before .before .before .before .line .kept, c .before .before .before .before .before .before .before .before .before .before .before .before .before .before .before .before .before .loop .inv, c .before .before .before .before .before .before .before .before .before .before .before .before .before .before .before .before .before .before .before .before .before .before .«open» .kept)
+  abbrev fm : FmC 𝓤 H (W .laws) (𝓣 .C)
+  fm = fmOf 𝓤 H (W .laws) 𝓣
 
-returns : tie.Need-returns Inv-loop μ-loop
-returns c = let a = c .before .before .before .before .before .before .before .before .before .before .before .before .before .before .before .before .before .before .before .before .before .before .before .before .before .before .before .args in let l = c .before .before .before .before .before .before .before .before .before .before .before .before .before .before .before .before .before .loop in let n = c .before .before .before .before .before .before .before .before .before .before .before .before .line in
-    let t = tables (l .ids) (entriesOf (l .list)) in
-    let o = outOf (n .result) (tables (n .last .1 .1 .0) (entriesOf (n .last .1 .1 .1 .0))) in
-    c .before .before .before .end .ensures ∙ sym (loop-refused (a .bytes .now) (l .at) (walkOf (l .st)) t o (c .before .before .before .before .before .before .before .before .before .before .before .before .before .before .before .before .loop-test .taken) (n .ensures) (sym (c .before .before .before .before .before .before .before .taken-in .ensures) ∙ c .before .before .before .before .before .before .if1 .taken))
-    ∙ l .inv .3 ∙ ap (λ (x : Out). calls all 0 (a .bytes .now) (x .walk) (x .left)) (c .before .before .before .before .before .before .before .before .before .before .before .before .before .before .before .before .before .before .before .before .before .before .«open» .ensures)
-    ∙ whole-means (a .held) (a .bytes .now) (tables (a .ids .now) (entriesOf (a .list .now)))
+  abbrev n : ℕ
+  n = length (src .now)
 
-add-at : tie.Need-add-at Inv-loop μ-loop
-add-at c = let a = c .before .before .before .before .before .before .before .before .before .before .before .before .before .before .before .before .before .before .before .before .before .args in let l = c .before .before .before .before .before .before .before .before .before .before .before .loop in let n = c .before .before .before .before .before .before .line in
-    let t = tables (l .ids) (entriesOf (l .list)) in
-    let o = outOf (n .result) (tables (n .last .1 .1 .0) (entriesOf (n .last .1 .1 .1 .0))) in
-    omega (arith, loop-within (a .bytes .now) (l .at) (walkOf (l .st)) t o (c .before .before .before .before .before .before .before .before .before .before .loop-test .taken) (n .ensures), c .before .taken-in .ensures, c .before .before .before .before .before .before .before .before .before .before .before .before .before .before .before .before .before .before .before .before .before .good)
+  abbrev wholly : Out
+  wholly = wholeFile quarter (src .now) (tablesOf′ (ids .now) (list .now))
 
-loop-less : tie.Need-loop-less Inv-loop μ-loop
-loop-less c = let a = c .before .before .before .before .before .before .before .before .before .before .before .before .before .before .before .before .before .before .before .before .before .args in let l = c .before .before .before .before .before .before .before .before .before .before .before .loop in let n = c .before .before .before .before .before .before .line in
-    let t = tables (l .ids) (entriesOf (l .list)) in
-    let o = outOf (n .result) (tables (n .last .1 .1 .0) (entriesOf (n .last .1 .1 .1 .0))) in
-    omega (arith, loop-within (a .bytes .now) (l .at) (walkOf (l .st)) t o (c .before .before .before .before .before .before .before .before .before .before .loop-test .taken) (n .ensures), c .before .taken-in .ensures, c .if1 .left)
+  -- how far the loop is: what is left says what the whole says
+  record Far : Type 0 where
+    place : ℕ
+    st : State
+    xs : List ℕ
+    ys : List Employer
+    st-ok : Is S.the-row st (state-val st ∷ [])
+    within : place ≤ n
+    xs-same : length xs ≡ length (ids .now)
+    ys-same : length ys ≡ length (list .now)
+    says : calls all 0 (drop place (src .now)) (walkOf st) (tablesOf′ xs ys) ≡ wholly
 
-loop-again : tie.Need-loop-again Inv-loop μ-loop
-loop-again c = let a = c .before .before .before .before .before .before .before .before .before .before .before .before .before .before .before .before .before .before .before .before .before .args in let l = c .before .before .before .before .before .before .before .before .before .before .before .loop in let n = c .before .before .before .before .before .before .line in
-    let t = tables (l .ids) (entriesOf (l .list)) in
-    let o = outOf (n .result) (tables (n .last .1 .1 .0) (entriesOf (n .last .1 .1 .1 .0))) in
-    let within = loop-within (a .bytes .now) (l .at) (walkOf (l .st)) t o (c .before .before .before .before .before .before .before .before .before .before .loop-test .taken) (n .ensures) in (
-      omega (arith, within, c .before .taken-in .ensures),
-      omega (arith, n .kept, l .inv),
-      omega (arith, n .kept, l .inv),
-      rw (c .before .taken-in .ensures) (sym (loop-taken (a .bytes .now) (l .at) (walkOf (l .st)) t o (c .before .before .before .before .before .before .before .before .before .before .loop-test .taken) (n .ensures) (λ e. c .if1 .left (c .before .taken-in .ensures ∙ e))) ∙ l .inv .3),
-    )
+  abbrev left : Far → ℕ
+  left k = n - k .place
 
-end-requires-2 : tie.Need-end-requires-2 Inv-loop μ-loop
-end-requires-2 c κs = search needs
+  -- what the function has, with these in its tables
+  abbrev Having : List ℕ → List Employer → List (Item 𝓤) → List (Item 𝓤)
+  Having xs ys Γ = ‵ (flft κ₀ q₀) ∷ ‵ (flft κ₁ q₁) ∷ ‵ (flft κ₂ q₂) ∷ ‵ (ShrSlice (named 0) κ₀ u8 .own src (s₀ ∷ [])) ∷ ‵ (MutSlice (named 0) κ₁ u32 .own (holding ids xs) (s₁ ∷ [])) ∷ ‵ (MutSlice (named 0) κ₂ T.the-row .own (holding list ys) (s₂ ∷ [])) ∷ Γ
 
-same-length-3 : tie.Need-same-length-3 Inv-loop μ-loop
-same-length-3 c = omega (arith, c .before .before .before .end2 .kept, c .before .before .before .before .before .before .before .loop .inv, c .before .before .before .before .before .before .before .before .before .before .before .before .«open» .kept)
+  -- [κ₀'s token; κ₁'s; κ₂'s; the source; ids; the list; _22 at 6; _21 at 8; _20 at 10; _19 at 12; _18 at 14; _17 at 16; _16 at 18; _15 at 20; _14 at 22; _13 at 24; _12 at 26; _11 at 28; _10 at 30; _9 at 32; _8 at 34; _7 at 36; _6 at 38; _5 at 40; _4 at 42; _3 at 44; _2 at 46; _1 at 48; _0 at 50]
+  abbrev At : Far → List (Item 𝓤)
+  At k = Having (k .xs) (k .ys) (locals En (none ∷ some (quarter-val quarter) ∷ some s₀ ∷ some s₁ ∷ some s₂ ∷ none ∷ some (state-val (k .st)) ∷ some (vint w64 (k .place)) ∷ []) [])
 
-same-length-4 : tie.Need-same-length-4 Inv-loop μ-loop
-same-length-4 c = omega (arith, c .before .before .before .end2 .kept, c .before .before .before .before .before .before .before .loop .inv, c .before .before .before .before .before .before .before .before .before .before .before .before .«open» .kept)
+  -- the end call
+  closes : (k : Far) → n ≤ k .place → Sq W (At k) (runs (𝓣 .C) (𝓣 .Λ) En mirs.t-9 (atRet En Post))
+  closes k over =
+      relends ! 44 12 10 (room₁ .0) refl refl refl refl refl refl refl refl $ relends ! 42 8 6 (room₂ .0) refl refl refl refl refl refl refl refl $ move ! (1 ∷ 2 ∷ 4 ∷ 5 ∷ []) $
+      asks ! (end-call W mem run) known-end fm (((κ₁, (κ₂, tt)), (q₁, (q₂, tt)), tt, (k .st, (holding ids (k .xs), (holding list (k .ys), tt))), (state-val (k .st) ∷ [], (s₁ ∷ [], (s₂ ∷ [], tt)))), tt) tt
+      4 (made (LL.makes S.the-type S′.the-plain 𝓤 H A (k .st) _ (k .st-ok)), (held, (held, tt))) refl (and-then ! (var ! 38 refl) (and-then ! (var ! 10 refl) (and-then ! (var ! 6 refl) (no-more !)))) (λ r ws said r-is.
+      -- [κ₁'s token; κ₂'s; ids' last list; the list's last list; κ₀'s; the source; _22 at 6; …]
+      receives ! 50 refl (LL.lawful An.the-type An′.the-laws 𝓤 H A W .typed r _ r-is .0) $ returns ! (look ! 50 refl) $ lets-go ! 6 refl $ lose ! 5 $ move ! (4 ∷ 0 ∷ 1 ∷ 2 ∷ 3 ∷ []) $
+      measures ! 3 refl (λ same₁. measures ! 4 refl (λ same₂.
+      by ! (finishes W f.ended ends (f.clauses 𝓤 H A mem run) y (answer-val r) r (tt, (tt, (ws .1 .0, (ws .1 .1 .0, tt)))) (tt, (tt, (same₁ ∙ k .xs-same, (same₂ ∙ k .ys-same, tt)))) (outOf r (tablesOf′ (ws .1 .0) (ws .1 .1 .0)) ≡ wholly) refl
+      (said ∙ sym (loop-done (src .now) (k .place) (walkOf (k .st)) (tablesOf′ (k .xs) (k .ys)) over) ∙ k .says) (LL.makes An.the-type An′.the-plain 𝓤 H A r _ r-is)))))
 
-returns-2 : tie.Need-returns-2 Inv-loop μ-loop
-returns-2 c = let l = c .before .before .before .before .before .before .before .loop in
-    c .before .before .before .end2 .ensures ∙ sym (loop-done (c .before .before .before .before .before .before .before .before .before .before .before .before .before .before .before .before .before .args .bytes .now) (l .at) (walkOf (l .st)) (tables (l .ids) (entriesOf (l .list))) (c .before .before .before .before .before .before .loop-test .left)) ∙ l .inv .3
-    ∙ ap (λ (x : Out). calls all 0 (c .before .before .before .before .before .before .before .before .before .before .before .before .before .before .before .before .before .args .bytes .now) (x .walk) (x .left)) (c .before .before .before .before .before .before .before .before .before .before .before .before .«open» .ensures)
-    ∙ whole-means (c .before .before .before .before .before .before .before .before .before .before .before .before .before .before .before .before .before .args .held) (c .before .before .before .before .before .before .before .before .before .before .before .before .before .before .before .before .before .args .bytes .now) (tables (c .before .before .before .before .before .before .before .before .before .before .before .before .before .before .before .before .before .args .ids .now) (entriesOf (c .before .before .before .before .before .before .before .before .before .before .before .before .before .before .before .before .before .args .list .now)))
+  turns : (k : Far) → Sq W (At k) (runs (𝓣 .C) (𝓣 .Λ) En mirs.turn-1 (anyQ (Turned 𝓤 H A 𝓣 En left At mirs.t-9 Post k)))
+  unfolding afterTurn
+  turns k =
+      let x₁ = holding ids (k .xs) in let x₂ = holding list (k .ys) in
+      sets ! (of-opd ! (inner ! 46 refl (sub ! 1 refl (whole !)))) 24 refl (tt, record { fits = room₀ .0 }) $ sets ! (bin ! (var ! 36 refl) (var ! 24 refl) tt) 22 refl (tt, tt) $ tests ! (var ! 22 refl)
+      (λ less.
+      let lt : k .place < n = ltb→lt (k .place) n less in
+      relends ! 44 20 18 (room₁ .0) refl refl refl refl refl refl refl refl $ relends ! 42 16 14 (room₂ .0) refl refl refl refl refl refl refl refl $
+      move ! (1 ∷ 4 ∷ []) $ lends-again ! tt u32 x₁ (s₁ ∷ []) (λ p₁ ν₁ δ₁.
+      -- [ν₁'s token; ids; what they keep; κ₀'s; κ₂'s; the source; the list; _22 at 7; …]
+      move ! (4 ∷ 6 ∷ []) $ lends-again ! tt T.the-row x₂ (s₂ ∷ []) (λ p₂ ν₂ δ₂.
+      -- [ν₂'s token; the list; what it keeps; ν₁'s; ids; what they keep; κ₀'s; the source; _22 at 8; …]
+      move ! (7 ∷ []) $ twice ! u8 κ₀ src (s₀ ∷ []) $ move ! (8 ∷ 5 ∷ 2 ∷ 0 ∷ 6 ∷ 3 ∷ []) $
+      -- [κ₀'s token; ν₁'s; ν₂'s; the source; ids; the list; the source; what the list keeps; what ids keep; _22 at 9; …]
+      asks ! (line-at W mem run) known-line fm
+      (((κ₀, (ν₁ ∷ [], (ν₂ ∷ [], tt))), (q₀, (fullShare, (fullShare, tt))), tt, (k .st, (src, (k .place, (named-as x₁ δ₁, (named-as x₂ δ₂, tt))))), (state-val (k .st) ∷ [], (s₀ ∷ [], (vint w64 (k .place) ∷ [], (s₁ ∷ [], (s₂ ∷ [], tt)))))), tt) tt
+      6 (made (LL.makes S.the-type S′.the-plain 𝓤 H A (k .st) _ (k .st-ok)), (held, (made (uint-makes 𝓤 H A W w64 (k .place) _ (refl, omega (arith, lt, room₀ .0))), (held, (held, tt))))) refl
+      (and-then ! (var ! 41 refl) (and-then ! (var ! 49 refl) (and-then ! (var ! 39 refl) (and-then ! (var ! 21 refl) (and-then ! (var ! 17 refl) (no-more !)))))) (λ r ws said r-is.
+      let xs′ = ws .1 .1 .1 .0 in let ys′ = ws .1 .1 .1 .1 .0 in let fields = LL.owed An.the-type An′.the-laws r _ r-is in
+      let t = tablesOf′ (k .xs) (k .ys) in let o = outOf r (tablesOf′ xs′ ys′) in
+      -- [κ₀'s token; ν₁'s; ν₂'s; ids' last; the list's last; the source; what the list keeps; what ids keep; _22 at 8; …]
+      receives ! 36 refl (LL.lawful An.the-type An′.the-laws 𝓤 H A W .typed r _ r-is .0) $
+      move ! (1 ∷ 3 ∷ 7 ∷ []) $ comes-back ! tt u32 x₁ (s₁ ∷ []) δ₁ xs′ p₁ (λ same₁ _.
+      -- [κ₁'s token; ids; κ₀'s; ν₂'s; the list's last; the source; what the list keeps; _22 at 7; …]
+      move ! (3 ∷ 4 ∷ 6 ∷ []) $ comes-back ! tt T.the-row x₂ (s₂ ∷ []) δ₂ ys′ p₂ (λ same₂ _.
+      -- [κ₂'s token; the list; κ₁'s; ids; κ₀'s; the source; _22 at 6; …]
+      move ! (4 ∷ 2 ∷ 0 ∷ 5 ∷ 3 ∷ 1 ∷ []) $ resets ! (of-opd ! (inner ! 34 {τ = S′.mir} {d = 0} refl (sub ! 0 {τ = S′.mir} {d = 0} refl (whole !)))) 38 refl (LL.lawful S.the-type S′.the-laws 𝓤 H A W .typed (r .state) _ (fields .0) .0) $
+      resets ! (of-opd ! (inner ! 46 refl (sub ! 1 refl (whole !)))) 24 refl (tt, record { fits = room₀ .0 }) $
+      asks-last ! (next-place W mem run) known-next fm ((tt, tt, tt, (k .place, (r .reply, (n, tt))), (vint w64 (k .place) ∷ [], (reply-val (r .reply) ∷ [], (vint w64 n ∷ [], tt)))), tt) (loop-within (src .now) (k .place) (walkOf (k .st)) t o lt said)
+      0 (made (uint-makes 𝓤 H A W w64 (k .place) _ (refl, omega (arith, lt, room₀ .0))), (made (EL.makes R.the-type R′.the-plain 𝓤 H A (r .reply) _ (fields .1 .0)), (made (uint-makes 𝓤 H A W w64 n _ (refl, room₀ .0)), tt))) refl
+      (and-then ! (var ! 36 refl) (and-then ! (inner ! 34 {τ = R′.mir} {d = reply-at} refl (sub ! 1 {τ = R′.mir} {d = reply-at} refl (whole !))) (and-then ! (var ! 24 refl) (no-more !)))) (λ next _ goes next-is.
+      let farther = next-within (src .now) (k .place) (walkOf (k .st)) t o lt said in
+      let above : k .place < next = rw goes (farther .0) in let inside : next ≤ n = rw goes (farther .1) in
+      land-last ! (from ! (stop !)) (store ! 36 refl (tt, record { fits = next-is .1 })) $
+      forget ! 14 refl $ forget ! 16 refl $ forget ! 18 refl $ forget ! 20 refl $ forget ! 22 refl $ forget ! 24 refl $ forget ! 34 refl $
+      again ! (Nearer left) At k (record {
+        place = next;
+        st = r .state;
+        xs = xs′;
+        ys = ys′;
+        st-ok = fields .0;
+        within = inside;
+        xs-same = same₁ ∙ k .xs-same;
+        ys-same = same₂ ∙ k .ys-same;
+        says = ap (λ (m : ℕ). calls all 0 (drop m (src .now)) (walkOf (r .state)) (tablesOf′ xs′ ys′)) goes ∙ sym (loop-next (src .now) (k .place) (walkOf (k .st)) t o lt said) ∙ k .says;
+      }) (omega (arith, above, inside)))))))))
+      (λ over. exec ! (𝓣 .C) (𝓣 .Λ) En mirs.t-9 (atRet En Post) $ forget ! 22 refl $ forget ! 24 refl $ closes k (nltb→le (k .place) n over))
 
-pub whole-spec : {M : Type 1} → statement M
-whole-spec =
-    tie.close
-    (tie.spec
-    Inv-loop μ-loop open-requires (λ c. search needs) (λ c. search needs) (λ c. search needs) (λ c. search needs) line-requires
-    taken-in-requires end-requires same-length same-length-2 returns add-at loop-less loop-again end-requires-2 same-length-3 same-length-4
-    returns-2)
+  loop : (k : Far) → Sq W (At k) (runs (𝓣 .C) (𝓣 .Λ) En mirs.t-8 (atRet En Post))
+  loop k = first ! $ blocks ! $ loops ! 𝓣 (Nearer left) (nearer-wf left) At turns k
+
+  walk : Sq W (Having (ids .now) (list .now) (locals En (none ∷ some (quarter-val quarter) ∷ some s₀ ∷ some s₁ ∷ some s₂ ∷ []) [])) (runs (𝓣 .C) (𝓣 .Λ) En (code.function .body) (atRet En Post))
+  walk =
+      relends ! 44 32 30 (room₁ .0) refl refl refl refl refl refl refl refl $ relends ! 42 28 26 (room₂ .0) refl refl refl refl refl refl refl refl $
+      move ! (1 ∷ 4 ∷ []) $ lends-again ! tt u32 ids (s₁ ∷ []) (λ p₁ ν₁ δ₁. move ! (4 ∷ 6 ∷ []) $ lends-again ! tt T.the-row list (s₂ ∷ []) (λ p₂ ν₂ δ₂. move ! (3 ∷ 0 ∷ 4 ∷ 1 ∷ []) $
+      -- [ν₁'s token; ν₂'s; ids; the list; what the list keeps; what ids keep; κ₀'s; the source; _22 at 8; …]
+      asks ! (opens W mem run) known-open fm (((ν₁ ∷ [], (ν₂ ∷ [], tt)), (fullShare, (fullShare, tt)), tt, (quarter, (named-as ids δ₁, (named-as list δ₂, tt))), (quarter-val quarter ∷ [], (s₁ ∷ [], (s₂ ∷ [], tt)))), tt) tt
+      4 (made (LL.makes Q.the-type Q′.the-plain 𝓤 H A quarter _ quarter-is), (held, (held, tt))) refl (and-then ! (var ! 50 refl) (and-then ! (var ! 32 refl) (and-then ! (var ! 28 refl) (no-more !)))) (λ r ws said r-is.
+      let fields = LL.owed An.the-type An′.the-laws r _ r-is in
+      receives ! 42 refl (LL.lawful An.the-type An′.the-laws 𝓤 H A W .typed r _ r-is .0) $
+      move ! (0 ∷ 2 ∷ 5 ∷ []) $ comes-back ! tt u32 ids (s₁ ∷ []) δ₁ (ws .1 .0) p₁ (λ same₁ _.
+      -- [κ₁'s token; ids; ν₂'s; the list's last; what the list keeps; κ₀'s; the source; _22 at 7; …]
+      move ! (2 ∷ 3 ∷ 4 ∷ []) $ comes-back ! tt T.the-row list (s₂ ∷ []) δ₂ (ws .1 .1 .0) p₂ (λ same₂ _.
+      -- [κ₂'s token; the list; κ₁'s; ids; κ₀'s; the source; _22 at 6; …]
+      move ! (4 ∷ 2 ∷ 0 ∷ 5 ∷ 3 ∷ 1 ∷ []) $ sets ! (of-opd ! (inner ! 40 {τ = S′.mir} {d = 0} refl (sub ! 0 {τ = S′.mir} {d = 0} refl (whole !)))) 38 refl (LL.lawful S.the-type S′.the-laws 𝓤 H A W .typed (r .state) _ (fields .0) .0) $
+      sets ! (of-opd ! (lit ! tt)) 36 refl (tt, record { fits = lit< tt }) $ forget ! 26 refl $ forget ! 28 refl $ forget ! 30 refl $ forget ! 32 refl $ forget ! 40 refl $
+      loop (record {
+        place = 0;
+        st = r .state;
+        xs = ws .1 .0;
+        ys = ws .1 .1 .0;
+        st-ok = fields .0;
+        within = omega arith;
+        xs-same = same₁;
+        ys-same = same₂;
+        says = ap (λ (o : Out). calls all 0 (src .now) (o .walk) (o .left)) said ∙ whole-means quarter (src .now) (tablesOf′ (ids .now) (list .now));
+      }))))))
+
+pub whole-spec : {M : Type 1} → stated.statement M
+unfolding code.routine tablesOf
+whole-spec 𝓤 H 𝓜 𝓖 𝓡 =
+    proves 𝓤 H 𝓜 𝓖 𝓡 f.ended ends (f.clauses 𝓤 H (𝓖 .A) (𝓜 .mem) (𝓡 .run)) code.env #whole code.function (code.unfolded 𝓤 H 𝓜 𝓡)
+    (λ κs. (LL.vals Q.the-type Q′.the-laws, (slice-vals, (slice-vals, (slice-vals, tt)))))
+    (λ κs. (LL.tells Q.the-type Q′.the-laws, (shr-slice-tells (named 0) (κs .0) u8, (mut-slice-tells (named 0) (κs .1 .0) u32, (mut-slice-tells (named 0) (κs .1 .1 .0) T.the-row, tt)))))
+    (λ κs qs bounds a g are. let W = givenOf 𝓤 H 𝓜 𝓖 in (
+      (LL.lawful Q.the-type Q′.the-laws 𝓤 H (𝓖 .A) W .typed (a .0) _ (are .0) .0, ((tt, (tt, (record { fits = are .1 .0 .0 .1 .0 }, tt))), ((tt, (tt, (record { fits = are .1 .1 .0 .0 .1 .0 }, tt))), ((tt, (tt, (record { fits = are .1 .1 .1 .0 .0 .1 .0 }, tt))), tt)))),
+      λ ps. lose ! 3 $ walk 𝓤 H (𝓖 .A) W (𝓜 .mem) (𝓡 .run) (tablesOf 𝓤 H 𝓜 (tables 𝓤 H 𝓜 𝓡 code.env))
+          (cited 𝓤 H (Asked (opens W (𝓜 .mem) (𝓡 .run))) 𝓜 𝓡 code.env #open open-routine code.calls-walk·open (open-met.met 𝓤 H 𝓜 𝓖 𝓡))
+          (cited 𝓤 H (Asked (line-at W (𝓜 .mem) (𝓡 .run))) 𝓜 𝓡 code.env #line-at line-at-routine code.calls-walk·line-at (line-at-met.met 𝓤 H 𝓜 𝓖 𝓡))
+          (cited 𝓤 H (Asked (next-place W (𝓜 .mem) (𝓡 .run))) 𝓜 𝓡 code.env #next-place next-place-routine code.calls-walk·next-place (next-place-met.met 𝓤 H 𝓜 𝓖 𝓡))
+          (cited 𝓤 H (Asked (end-call W (𝓜 .mem) (𝓡 .run))) 𝓜 𝓡 code.env #end end-routine code.calls-walk·end (end-met.met 𝓤 H 𝓜 𝓖 𝓡))
+          (κs .0) (κs .1 .0) (κs .1 .1 .0) (qs .0) (qs .1 .0) (qs .1 .1 .0) (a .0) (a .1 .0) (a .1 .1 .0) (a .1 .1 .1 .0) (are .0) (are .1 .0 .0 .1) (are .1 .1 .0 .0 .1) (are .1 .1 .1 .0 .0 .1) ps,
+    ))

@@ -3,11 +3,12 @@
 use super::moments::{content, Moment};
 use super::records::{line_for, short_line};
 use super::Script;
-use crate::command::LONGEST_SLICE;
+use crate::command::{LONGEST_BUFFER, LONGEST_SLICE};
 use crate::edits::Phase;
 use crate::layout::LENGTH;
 use crate::rng::Rng;
 use crate::walk::{unfit, Standing};
+use crate::words::COUNT;
 use crate::write::Written;
 
 /// A line call and an end call, each in the same walk.
@@ -58,4 +59,22 @@ pub fn some_writing(rng: &mut Rng, script: &mut Script) {
         if rng.one_in(6) { any } else { fitting },
         if rng.one_in(6) { other_length } else { LENGTH },
     );
+}
+
+/// Frames, mostly into a buffer that is large enough for those of a walk that has ended.
+pub fn some_frames(rng: &mut Rng, script: &mut Script) {
+    let employers = script.state().employers.min(12) as usize;
+    let bound = 35 * employers + 35;
+    let some_length = rng.index(LONGEST_BUFFER + 1);
+    let length = rng.pick(&[bound, bound, LONGEST_BUFFER, bound - 1, 17, some_length]);
+    script.frames(rng.pick(&[0, 2, 3, 3, 12]), length);
+}
+
+/// Another number in one word of the state.
+pub fn some_word(rng: &mut Rng, script: &mut Script) {
+    let at = rng.index(COUNT);
+    let own = script.words()[at];
+    let any = rng.next() >> rng.below(64);
+    let number = rng.pick(&[own ^ 1, own.wrapping_add(1 << 32), any, any, u64::MAX]);
+    script.word(at, number);
 }

@@ -1,7 +1,7 @@
 //! Scenes by chance: altered states, walks with incidents, whole files.
 
 use super::broken::broken;
-use super::calls::some_writing;
+use super::calls::{some_frames, some_word, some_writing};
 use super::moments::{rest_of, walked};
 use super::near;
 use super::records::{line_for, piece, short_line, too_little};
@@ -66,11 +66,14 @@ fn altered_state(rng: &mut Rng, script: &mut Script) {
     if rng.one_in(4) {
         alter_tables(rng, script, &rest);
     }
+    if rng.one_in(4) {
+        some_word(rng, script);
+    }
     some_writing(rng, script);
     if rng.one_in(6) {
         script.end();
     }
-    let state = script.state();
+    let state = script.told_state().unwrap_or(moment.state);
     match rng.below(4) {
         0 if !rest.is_empty() => script.line(piece(rng, &rest)),
         1 => script.line(short_line(rng)),
@@ -133,24 +136,28 @@ fn walk(rng: &mut Rng, script: &mut Script) {
     }
     script.end();
     some_writing(rng, script);
+    some_frames(rng, script);
     for _ in 0..rng.below(3) {
         script.line(short_line(rng));
         script.end();
     }
 }
 
-/// Tables of another length or content, another state, or a call that comes too early.
+/// Tables of another length or content, another state or word, or a call that comes too early.
 fn incident(rng: &mut Rng, script: &mut Script, rest: &[u8]) {
-    match rng.below(7) {
+    match rng.below(9) {
         0 | 1 => alter_tables(rng, script, rest),
         2 => script.lent = some_room(rng),
         3 => {
-            let mut state = script.state();
-            near::alter(rng, &mut state);
-            script.set_state(state);
+            if let Some(mut state) = script.told_state() {
+                near::alter(rng, &mut state);
+                script.set_state(state);
+            }
         }
         4 => script.lent = KEPT,
         5 => script.line(too_little(rng, rest)),
+        6 => some_word(rng, script),
+        7 => some_frames(rng, script),
         _ => script.end(),
     }
 }
@@ -170,6 +177,7 @@ fn whole(rng: &mut Rng, script: &mut Script) {
         alter_tables(rng, script, &file);
     }
     script.whole(draft.held, &file);
+    some_frames(rng, script);
     script.end();
     script.line(short_line(rng));
 }

@@ -1,0 +1,4 @@
+pub mod Called
+pub mod Lent
+pub mod Programs
+pub mod Values

@@ -1,0 +1,3 @@
+pub mod Called
+mod Lent
+mod Steps

@@ -1,0 +1,84 @@
+-- The laws of the calls: how the code comes to what each promises.
+use Prim.Native.Nat.{ℕ, _<_, _≤_}
+use mathlib.Core.Bool.{true, false, false≢true}
+use mathlib.Core.List.{List, [], _∷_}
+use mathlib.Core.Path.{_≡_, refl, sym, ap, _∙_}
+use native.Mathlib.Omega.{arith}
+use lib.ListN.{length, set}
+use lib.Seq.{take-nil}
+use borrow.Author.Tests.{ne-eqb, lt-ltb, le-ltb}
+use Rattle.reason.specs.Numbers.{numberOf, notice, noticeOf}
+use Rattle.reason.specs.Once.{never-zero}
+use Rattle.reason.specs.declared.Refusal.{Refusal}
+use Rattle.tables.specs.Room.{Tables}
+use Rattle.step.specs.Steps.{Out}
+use Rattle.words.specs.Words.{wordCount, putWords, walkIn}
+use Rattle.write.specs.Writing.{Writing, noticeIn, writtenBy}
+use Rattle.write.specs.declared.Wrote.{Wrote}
+use Rattle.write.specs.declared.Wrote.the-variants.{Refused}
+use Rattle.frames.specs.Frames.{Framing}
+use Rattle.frames.specs.declared.Framed.{Framed}
+use Rattle.capi.specs.Exports.{numbers, answered, Told, Called, isStill, stateAfter, called, Promised, placed, Filled, filled, writtenNumbers, filledRecord, framedNumbers, filledFraming}
+use Rattle.capi.specs.declared.Numbers.{Numbers}
+
+-- ---- the answer's words
+-- They are put one by one.
+pub one-by-one : (n : Numbers) (words : List ℕ) → set (set (set (set words 0 (n .number)) 1 (n .line)) 2 (n .column)) 3 (n .bytes) ≡ answered n words
+unfolding answered
+one-by-one n [] = refl
+one-by-one n (a ∷ []) = refl
+one-by-one n (a ∷ b ∷ []) = refl
+one-by-one n (a ∷ b ∷ c ∷ []) = refl
+one-by-one n (a ∷ b ∷ c ∷ d ∷ rest) = rw (take-nil (length rest))
+
+-- A refused writing has written nothing.
+pub none-written : (wrote : Wrote) (refusal : Refusal) → wrote ≡ Refused refusal → numbers (noticeOf refusal) 0 ≡ writtenNumbers (noticeIn wrote)
+none-written wrote refusal is = rw (is, ne-eqb (numberOf (refusal .reason)) 0 (never-zero (refusal .reason)))
+
+-- ---- the calls of the walk
+module _ (out : Out) (words answer : List ℕ) (n : Numbers) (number : ℕ) (after : List ℕ) (is-n : n ≡ numbers (out .says) (out .taken)) (told : Told n number answer after) where
+  abbrev has : List ℕ → Called
+  has state = record { number = number; state = state; answer = after; left = out .left }
+
+  is-number : number ≡ out .says .number
+  is-number = told .0 ∙ ap (λ (m : Numbers). m .number) is-n
+
+  has-called : (state : List ℕ) → state ≡ stateAfter out words → has state ≡ called out words answer
+  has-called state is = rw (is-number, told .1 ∙ ap (λ (m : Numbers). answered m answer) is-n, is)
+
+  pub words-kept : isStill number ≡ true → Promised out words answer (has words)
+  words-kept still =
+      let is : isStill (out .says .number) ≡ true = ap isStill (sym is-number) ∙ still in
+      (has-called words (rw is), λ room moving. absurd (false≢true (sym moving ∙ is)))
+
+  pub words-put : isStill number ≡ false → (state : List ℕ) → state ≡ putWords (out .walk) words → (wordCount ≤ length words → walkIn state ≡ out .walk)
+      → Promised out words answer (has state)
+  words-put moving state is tells =
+      let moves : isStill (out .says .number) ≡ false = ap isStill (sym is-number) ∙ moving in
+      (has-called state (rw moves is), λ room _. tells room)
+
+-- ---- a place for the state
+module _ (out : Out) (words : List ℕ) (t : Tables) where
+  pub has-place : wordCount ≤ length words → placed out words t ≡ out
+  has-place h = rw (le-ltb (length words) wordCount h)
+
+  pub no-place : length words < wordCount → (answer : List ℕ) (number : ℕ) (after : List ℕ) → Told (numbers (notice 72 0 0) 0) number answer after
+      → Promised (placed out words t) words answer (record { number = number; state = words; answer = after; left = t })
+  no-place h answer number after told = rw (lt-ltb (length words) wordCount h, told .0, told .1) (refl, λ room. absurd (omega arith))
+
+-- ---- the calls that write into a lent slice
+module _ (number : ℕ) (out answer after : List ℕ) where
+  abbrev fills : Filled
+  fills = record { number = number; out = out; answer = after }
+
+  has-filled : (n : Numbers) → Told n number answer after → fills ≡ filled n out answer
+  has-filled n told = rw (told .0, told .1)
+
+  pub has-record : (wrote : Wrote) (w : Writing) (n : Numbers) → n ≡ writtenNumbers (noticeIn wrote) → writtenBy wrote out ≡ w → Told n number answer after
+      → fills ≡ filledRecord w answer
+  has-record wrote w n is-n is-w told =
+      has-filled n told ∙ ap (λ (m : Numbers). filled m out answer) is-n ∙ ap (λ (x : Writing). filledRecord x answer) is-w
+
+  pub has-framing : (framed : Framed) (f : Framing) → record { answer = framed; out = out } ≡ f → Told (framedNumbers framed) number answer after
+      → fills ≡ filledFraming f answer
+  has-framing framed f is-f told = has-filled (framedNumbers framed) told ∙ ap (λ (x : Framing). filledFraming x answer) is-f

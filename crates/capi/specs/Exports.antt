@@ -1,0 +1,124 @@
+-- The calls of the library for integrators: what each answers, and what is then in everything that it was lent.
+use Prim.Native.Nat.{ℕ, _≤_}
+use mathlib.Core.Bool.{Bool, false, _||_}
+use mathlib.Core.List.{List, [], _∷_, _++_}
+use mathlib.Core.Path.{_≡_}
+use lib.Dec.{eqb, ltb}
+use lib.ListN.{length, take, drop}
+use Rattle.laws.specs.Choice.{if_then_else_}
+use Rattle.reason.specs.Numbers.{Notice, notice}
+use Rattle.calendar.specs.declared.Quarter.{Quarter}
+use Rattle.lines.specs.Lines.{firstLine}
+use Rattle.tables.specs.Room.{Tables}
+use Rattle.tables.specs.declared.Employer.{Employer}
+use Rattle.step.specs.Moves.{stays}
+use Rattle.step.specs.Steps.{Out, carried, openStep, lineStep, endStep}
+use Rattle.words.specs.Words.{wordCount, putWords, walkIn}
+use Rattle.write.specs.Writing.{Writing, totalWriting, finalWriting}
+use Rattle.walk.specs.Calls.{wholeFile}
+use Rattle.frames.specs.Frames.{Framing, framing}
+use Rattle.frames.specs.declared.Framed.{Framed}
+use Rattle.frames.specs.declared.Framed.the-variants.{Written, Unfit, NotEnded, TooSmall}
+use Rattle.capi.specs.declared.Numbers.{Numbers}
+
+-- ---- the answer's words
+-- Number, line and column as the paper gives them, and a count of bytes.
+abbrev pub numbers : Notice → ℕ → Numbers
+numbers says bytes = record { number = says .number; line = says .line; column = says .column; bytes = bytes }
+
+-- They stand at the front of what is lent, as many as fit, and what lies behind stays.
+unfoldable pub answered : Numbers → List ℕ → List ℕ
+answered n words = take (length words) (n .number ∷ n .line ∷ n .column ∷ n .bytes ∷ []) ++ drop 4 words
+
+-- The call itself answers the first of them.
+abbrev pub Told : Numbers → ℕ → List ℕ → List ℕ → Type 0
+Told n number before after = (number ≡ n .number) × (after ≡ answered n before)
+
+-- ---- the calls of the walk
+-- What a caller has after one: the number, the state's words, the answer's words, and both tables.
+pub record Called : Type 0 where
+  pub number : ℕ
+  pub state : List ℕ
+  pub answer : List ℕ
+  pub left : Tables
+
+-- "71: line or end after acceptance; nothing changed", "72: state unfit; nothing changed"
+abbrev pub isStill : ℕ → Bool
+isStill number = eqb number 71 || eqb number 72
+
+-- The state's words after a call: those of the walk that it leaves. Where nothing is changed, no word is written.
+abbrev pub stateAfter : Out → List ℕ → List ℕ
+stateAfter out words = if isStill (out .says .number) then words else putWords (out .walk) words
+
+-- The caller lends the state's words and the answer's.
+abbrev pub called : Out → List ℕ → List ℕ → Called
+called out words answer =
+    record {
+      number = out .says .number;
+      state = stateAfter out words;
+      answer = answered (numbers (out .says) (out .taken)) answer;
+      left = out .left;
+    }
+
+-- What each call promises: that the caller has this, and that words written tell the walk that the call leaves, so that the next call goes on from it.
+abbrev pub Promised : Out → List ℕ → List ℕ → Called → Type 0
+Promised out words answer has =
+    (has ≡ called out words answer)
+    × (wordCount ≤ length words → isStill (out .says .number) ≡ false → walkIn (has .state) ≡ out .walk)
+
+-- Where there is no place to keep the state, a call that opens a walk answers 72 and touches no table.
+abbrev pub placed : Out → List ℕ → Tables → Out
+placed out words t = if ltb (length words) wordCount then carried (stays 72 (walkIn words)) t else out
+
+abbrev pub quarterOf : ℕ → ℕ → Quarter
+quarterOf year month = record { year = year; month = month }
+
+-- The four calls, over the state's words and the tables.
+abbrev pub openThrough : Quarter → List ℕ → Tables → Out
+openThrough held words t = placed (openStep held t) words t
+
+abbrev pub lineThrough : List ℕ → List ℕ → Tables → Out
+lineThrough bytes words t = lineStep (walkIn words) (firstLine bytes) t
+
+abbrev pub endThrough : List ℕ → Tables → Out
+endThrough words t = endStep (walkIn words) t
+
+abbrev pub wholeThrough : Quarter → List ℕ → List ℕ → Tables → Out
+wholeThrough held bytes words t = placed (wholeFile held bytes t) words t
+
+-- ---- the calls that write into a lent slice
+-- What a caller has after one: the number, the slice's bytes, and the answer's words.
+pub record Filled : Type 0 where
+  pub number : ℕ
+  pub out : List ℕ
+  pub answer : List ℕ
+
+abbrev pub filled : Numbers → List ℕ → List ℕ → Filled
+filled n out answer = record { number = n .number; out = out; answer = answered n answer }
+
+-- A record of 290 bytes is written, or nothing.
+abbrev pub writtenNumbers : Notice → Numbers
+writtenNumbers says = numbers says (if eqb (says .number) 0 then 290 else 0)
+
+abbrev pub filledRecord : Writing → List ℕ → Filled
+filledRecord w answer = filled (writtenNumbers (w .says)) (w .out) answer
+
+abbrev pub filledT : List ℕ → List ℕ → List ℕ → Filled
+filledT words out answer = filledRecord (totalWriting (walkIn words) out) answer
+
+abbrev pub filledF : List ℕ → List ℕ → List ℕ → Filled
+filledF words out answer = filledRecord (finalWriting (walkIn words) out) answer
+
+-- The papers give no number to frames that are asked for before the walk has ended, nor to a buffer that is too small for them. 87 and 88 are free
+-- in them.
+abbrev pub framedNumbers : Framed → Numbers
+framedNumbers (Written bytes) = numbers (notice 0 0 0) bytes
+framedNumbers Unfit = numbers (notice 72 0 0) 0
+framedNumbers NotEnded = numbers (notice 87 0 0) 0
+framedNumbers TooSmall = numbers (notice 88 0 0) 0
+
+abbrev pub filledFraming : Framing → List ℕ → Filled
+filledFraming f answer = filled (framedNumbers (f .answer)) (f .out) answer
+
+abbrev pub filledFrames : List ℕ → List Employer → List ℕ → List ℕ → Filled
+filledFrames words list out answer = filledFraming (framing (walkIn words) list out) answer

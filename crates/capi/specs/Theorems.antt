@@ -1,0 +1,192 @@
+-- A session through words is the session of the walk: what a call leaves, the words tell to the next. Words that tell no walk are answered 72, and
+-- nothing is changed.
+use Prim.Native.Nat.{ℕ, _≤_}
+use mathlib.Core.Bool.{Bool, true, false, false≢true}
+use mathlib.Core.List.{List, [], _∷_}
+use mathlib.Core.Path.{_≡_, refl, sym, ap, subst, _∙_}
+use native.Mathlib.Omega.{arith}
+use lib.ListN.{length, drop, length-append, length-drop}
+use borrow.Author.Tests.{ne-eqb}
+use Rattle.laws.specs.Choice.{if_then_else_}
+use Rattle.laws.specs.Finding.{Finding, fine, broken}
+use Rattle.reason.specs.Numbers.{notice}
+use Rattle.calendar.specs.Quarters.{isAllowed}
+use Rattle.calendar.specs.declared.Quarter.{Quarter}
+use Rattle.lines.specs.Lines.{Line, firstLine}
+use Rattle.chars.specs.Characters.{capitals}
+use Rattle.edits.specs.Edit.{firstBroken}
+use Rattle.edits.specs.declared.Phase.{Phase}
+use Rattle.edits.specs.declared.Seen.{Seen}
+use Rattle.record.specs.Judge.{Judged, refusal, passed, judge, seenOn}
+use Rattle.record.specs.Numbered.{refusal-numbered, end-numbered}
+use Rattle.record.specs.Place.{endEdits}
+use Rattle.tables.specs.Room.{Room, Tables, roomOf}
+use Rattle.tables.specs.declared.Employer.{Employer}
+use Rattle.state.specs.Unfit.{unfit}
+use Rattle.state.specs.Walks.{Standing, reading, accepted, refused, Walk}
+use Rattle.words.specs.Theorems.{Unknown, unknown-unfit}
+use Rattle.words.specs.Words.{wordCount, wordsOf, putWords, walkIn}
+use Rattle.words.specs.Writing.{words-length, enough}
+use Rattle.write.specs.Writing.{noTables, refusalOf, writing}
+use Rattle.write.specs.WritingLaws.{unfit-first}
+use Rattle.frames.specs.FrameLaws.{framing-unfit}
+use Rattle.frames.specs.Frames.{Framing, roomWithout}
+use Rattle.step.specs.MoveLaws.{line-unfit, line-cases, end-unfit, end-fit, open-allowed, open-refused}
+use Rattle.step.specs.Moves.{Moved, contextOf, byVerdict, byStanding, endVerdict, endStanding, endMoved, openMoved}
+use Rattle.step.specs.Steps.{Out, carried, listedFein, listedId, openStep, lineStep, endStep}
+use Rattle.capi.specs.ExportLaws.{has-place}
+use Rattle.capi.specs.Exports.{numbers, answered, Called, isStill, called, Promised, openThrough, lineThrough, endThrough, Filled, filledRecord, filledT, filledF, filledFraming, filledFrames}
+
+-- ---- one call
+-- What the caller has after a call through words is what the walk's own call answers: the number, the tables, and the walk that the words then tell.
+-- The words are as many as before.
+pub record Follows (out : Out) (words : List ℕ) (has : Called) : Type 0 where
+  pub number : has .number ≡ out .says .number
+  pub left : has .left ≡ out .left
+  pub walk : walkIn (has .state) ≡ out .walk
+  pub room : length (has .state) ≡ length words
+
+put-length : (walk : Walk) (words : List ℕ) → wordCount ≤ length words → length (putWords walk words) ≡ length words
+put-length walk words room =
+    rw (enough walk words room, length-append (wordsOf walk) (drop wordCount words), words-length walk, length-drop wordCount words) (omega arith)
+
+module _ (out : Out) (words answer : List ℕ) (has : Called) (room : wordCount ≤ length words) (promised : Promised out words answer has) where
+  state-is : (still : Bool) → isStill (out .says .number) ≡ still → has .state ≡ (if still then words else putWords (out .walk) words)
+  state-is still e = ap (λ (c : Called). c .state) (promised .0) ∙ ap (λ (b : Bool). if b then words else putWords (out .walk) words) e
+
+  -- A call that answers 71 or 72 leaves the walk as it was.
+  pub follows : (isStill (out .says .number) ≡ true → out .walk ≡ walkIn words) → Follows out words has
+  follows stands = at (isStill (out .says .number)) refl
+    where
+      at : (still : Bool) → isStill (out .says .number) ≡ still → Follows out words has
+      at true e =
+          record {
+            number = ap (λ (c : Called). c .number) (promised .0);
+            left = ap (λ (c : Called). c .left) (promised .0);
+            walk = ap walkIn (state-is true e) ∙ sym (stands e);
+            room = ap length (state-is true e);
+          }
+      at false e =
+          record {
+            number = ap (λ (c : Called). c .number) (promised .0);
+            left = ap (λ (c : Called). c .left) (promised .0);
+            walk = promised .1 room e;
+            room = ap length (state-is false e) ∙ put-length (out .walk) words room;
+          }
+
+-- ---- 71 and 72 leave the walk as it was
+abbrev Stands : Walk → Moved → Type 0
+Stands walk m = isStill (m .says .number) ≡ true → m .walk ≡ walk
+
+edit-moves : (number : ℕ) → (1 ≤ number) × (number ≤ 63) → isStill number ≡ true → ⊥
+edit-moves number within still =
+    let not-71 : number ≡ 71 → ⊥ = λ (e : number ≡ 71). omega (arith, e, within .1) in
+    let not-72 : number ≡ 72 → ⊥ = λ (e : number ≡ 72). omega (arith, e, within .1) in
+    let moves : isStill number ≡ false = rw (ne-eqb number 71 not-71, ne-eqb number 72 not-72) in
+    false≢true (sym moves ∙ still)
+
+module _ (room : Room) (walk : Walk) where
+  line-verdict : (phase : Phase) (seen : Seen) (line : Line) (v : Judged) → judge (contextOf room walk phase) seen line ≡ v → Stands walk (byVerdict walk v)
+  line-verdict phase seen line (refusal column number) e still = absurd (edit-moves number (refusal-numbered _ _ line column number e) still)
+  line-verdict phase seen line (passed taken said) e still = absurd (false≢true still)
+
+  line-standing : (seen : Seen) (line : Line) (standing : Standing) → Stands walk (byStanding room seen line walk standing)
+  line-standing seen line (reading phase) = line-verdict phase seen line _ refl
+  line-standing seen line accepted = λ still. refl
+  line-standing seen line (refused says) = λ still. refl
+
+  end-verdict : (phase : Phase) (found : Finding) → firstBroken (endEdits phase) ≡ found → Stands walk (endVerdict walk found)
+  end-verdict phase fine e still = absurd (false≢true still)
+  end-verdict phase (broken column number) e still = absurd (edit-moves number (end-numbered phase column number e) still)
+
+  end-standing : (standing : Standing) → Stands walk (endStanding walk standing)
+  end-standing (reading phase) = end-verdict phase _ refl
+  end-standing accepted = λ still. refl
+  end-standing (refused says) = λ still. refl
+
+  end-stands : (u : Bool) → unfit room walk ≡ u → Stands walk (endMoved room walk)
+  end-stands true e = rw (end-unfit room walk e) (λ still. refl)
+  end-stands false e = rw (end-fit room walk (walk .standing) e refl) (end-standing (walk .standing))
+
+open-moves : (held : Quarter) (allowed : Bool) → isAllowed held ≡ allowed → isStill (openMoved held .says .number) ≡ true → ⊥
+open-moves held true e = rw (open-allowed held e) false≢true
+open-moves held false e = rw (open-refused held e) false≢true
+
+-- ---- opening, one line, the end
+module _ (words answer : List ℕ) (t : Tables) (has : Called) (room : wordCount ≤ length words) where
+  pub open-follows : (held : Quarter) → Promised (openThrough held words t) words answer has → Follows (openStep held t) words has
+  open-follows held promised = rw⁻¹ (has-place (openStep held t) words t room) (follows (openThrough held words t) words answer has room promised
+      (rw (has-place (openStep held t) words t room) (λ still. absurd (open-moves held _ refl still))))
+
+  pub line-follows : (walk : Walk) → walkIn words ≡ walk → (bytes : List ℕ) → Promised (lineThrough bytes words t) words answer has
+      → Follows (lineStep walk (firstLine bytes) t) words has
+  line-follows walk tells bytes promised = rw (sym tells) (follows (lineThrough bytes words t) words answer has room promised
+      (line-cases (roomOf t) (walkIn words) (Stands (walkIn words)) _ (firstLine bytes) (λ still. refl) (line-standing (roomOf t) (walkIn words) _ (firstLine bytes))))
+
+  pub end-follows : (walk : Walk) → walkIn words ≡ walk → Promised (endThrough words t) words answer has → Follows (endStep walk t) words has
+  end-follows walk tells promised =
+      rw (sym tells) (follows (endThrough words t) words answer has room promised (end-stands (roomOf t) (walkIn words) _ refl))
+
+-- ---- a session
+-- A line call: the bytes and the answer's words that it was lent, and what the caller has after it.
+pub record LineCall : Type 0 where
+  pub bytes : List ℕ
+  pub answer : List ℕ
+  pub has : Called
+
+-- Line calls in a row, each with the words and the tables that the last one left.
+abbrev pub InRow : List ℕ → Tables → List LineCall → Type 0
+InRow words t [] = Unit
+InRow words t (c ∷ calls) = Promised (lineThrough (c .bytes) words t) words (c .answer) (c .has) × InRow (c .has .state) (c .has .left) calls
+
+-- Each follows the walk's own call, which is made with the state and the tables that the walk's last call left.
+abbrev pub AllFollow : Walk → Tables → List ℕ → List LineCall → Type 0
+AllFollow walk t words [] = Unit
+AllFollow walk t words (c ∷ calls) =
+    let out = lineStep walk (firstLine (c .bytes)) t in
+    Follows out words (c .has) × AllFollow (out .walk) (out .left) (c .has .state) calls
+
+pub session-follows : (calls : List LineCall) (words : List ℕ) (t : Tables) (walk : Walk) → walkIn words ≡ walk → wordCount ≤ length words
+    → InRow words t calls → AllFollow walk t words calls
+session-follows [] words t walk tells room row = tt
+session-follows (c ∷ calls) words t walk tells room row =
+    let out = lineStep walk (firstLine (c .bytes)) t in
+    let one : Follows out words (c .has) = line-follows words (c .answer) t (c .has) room walk tells (c .bytes) (row .0) in
+    let enough-left : wordCount ≤ length (c .has .state) = rw (one .room) room in
+    (one, session-follows calls (c .has .state) (out .left) (out .walk) (one .walk) enough-left (subst (λ (left : Tables). InRow (c .has .state) left calls) (one .left) (row .1)))
+
+-- ---- words that tell no walk
+module _ (words answer : List ℕ) (t : Tables) (has : Called) (unknown : Unknown words) where
+  -- 72, and nothing is changed but the answer's words.
+  abbrev unfitCall : Called
+  unfitCall = record { number = 72; state = words; answer = answered (numbers (notice 72 0 0) 0) answer; left = t }
+
+  pub unknown-line : (bytes : List ℕ) → Promised (lineThrough bytes words t) words answer has → has ≡ unfitCall
+  unknown-line bytes promised =
+      let walk = walkIn words in
+      let line = firstLine bytes in
+      let seen = seenOn (listedFein walk t) (listedId walk t) (capitals (line .text)) in
+      promised .0 ∙ ap (λ (m : Moved). called (carried m t) words answer) (line-unfit (roomOf t) walk seen line (unknown-unfit (roomOf t) words unknown))
+
+  pub unknown-end : Promised (endThrough words t) words answer has → has ≡ unfitCall
+  unknown-end promised =
+      promised .0 ∙ ap (λ (m : Moved). called (carried m t) words answer) (end-unfit (roomOf t) (walkIn words) (unknown-unfit (roomOf t) words unknown))
+
+-- The same of the calls that write into a lent slice: nothing is written.
+module _ (words out answer : List ℕ) (unknown : Unknown words) where
+  abbrev unfitFill : Filled
+  unfitFill = record { number = 72; out = out; answer = answered (numbers (notice 72 0 0) 0) answer }
+
+  unfit-record : (long next none large : Bool) (line : List ℕ)
+      → filledRecord (writing (refusalOf (unfit (noTables (walkIn words)) (walkIn words)) long next none large) line out) answer ≡ unfitFill
+  unfit-record long next none large line = rw (unknown-unfit (noTables (walkIn words)) words unknown, unfit-first long next none large)
+
+  pub unknown-T : filledT words out answer ≡ unfitFill
+  unknown-T = unfit-record _ _ _ _ _
+
+  pub unknown-F : filledF words out answer ≡ unfitFill
+  unknown-F = unfit-record _ _ _ _ _
+
+  pub unknown-frames : (list : List Employer) → filledFrames words list out answer ≡ unfitFill
+  unknown-frames list =
+      ap (λ (f : Framing). filledFraming f answer) (framing-unfit (walkIn words) list out _ refl (unknown-unfit (roomWithout (walkIn words) list) words unknown))

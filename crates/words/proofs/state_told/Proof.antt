@@ -1,0 +1,15 @@
+-- `words::state_told` meets its contract.
+use borrow.Author.Needs.{needs}
+use Rattle.words.proofs.state_told.Statement.{statement}
+use Rattle.words.proofs.state_told.Tie as tie
+
+returns : tie.Need-returns
+returns c = rw (c .before .before .before .before .before .before .before .before .before .before .before .before .line-in .ensures)
+
+pub state-told-spec : {M : Type 1} → statement M
+state-told-spec =
+    tie.close
+    (tie.spec
+    (λ c. search needs) (λ c κs. search needs) (λ c. search needs) (λ c. search needs) (λ c. search needs) (λ c. search needs)
+    (λ c. search needs) (λ c. search needs) (λ c. search needs) (λ c. search needs) (λ c. search needs) (λ c. search needs) (λ c. search needs)
+    (λ c. search needs) returns)

@@ -1,0 +1,4 @@
+pub mod Words
+pub mod Writing
+pub mod Reading
+pub mod Theorems

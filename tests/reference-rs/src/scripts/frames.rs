@@ -1,0 +1,120 @@
+//! Frames asked for: in each phase, with lists and buffers of all lengths; of accepted walks with few
+//! and with many employers; of lists that a caller altered; and the refusals in order.
+
+use super::moments::{base, in_each_phase, refused, HELD, LENT};
+use super::{near, Scene, Script};
+use crate::command::{LONGEST_BUFFER, NUMBERS};
+use crate::meaning::Entry;
+use crate::program::KEPT;
+use crate::rng::Rng;
+use crate::tables::Tables;
+use crate::walk::{OpenE, Standing, State};
+
+/// Around the lengths of a refusal's frame and of those of none, one, two and twelve employers.
+const LENGTHS: [usize; 17] = [
+    0, 1, 16, 17, 18, 34, 35, 36, 69, 70, 104, 105, 106, 454, 455, 456, 500,
+];
+
+pub fn add(scenes: &mut Vec<Scene>) {
+    for moment in in_each_phase() {
+        scenes.push(Box::new(move |_, script| {
+            script.set(&moment);
+            every_length(script, &[0, 1, 2, 3, 99]);
+            script.lent = LENT;
+            script.end();
+        }));
+    }
+    scenes.push(Box::new(|_, script| refusals(script)));
+    for employers in [0, 1, 2, 11, 12, 13] {
+        scenes.push(Box::new(move |rng, script| {
+            accepted_with(rng, script, employers);
+        }));
+    }
+    scenes.push(Box::new(|_, script| no_table_lent(script)));
+    for _ in 0..40 {
+        scenes.push(Box::new(altered));
+    }
+    scenes.push(Box::new(|_, script| whole_files(script)));
+}
+
+fn every_length(script: &mut Script, entries: &[usize]) {
+    for length in LENGTHS {
+        for entries in entries {
+            script.frames(*entries, length);
+        }
+    }
+}
+
+fn accepted() -> State {
+    in_each_phase()[5].state
+}
+
+/// Every number that a refusal leaves, or not; places at their bounds.
+fn refusals(script: &mut Script) {
+    for number in NUMBERS {
+        script.set(&refused(number));
+        script.frames(0, 17);
+        script.frames(0, 16);
+    }
+    for (at, number) in [(2, 4_294_967_295), (2, u64::MAX), (3, 65_535), (3, 65_536)] {
+        script.set(&refused(44));
+        script.word(at, number);
+        script.frames(0, 17);
+    }
+}
+
+/// A list full of great numbers, of which no walk leaves one.
+fn accepted_with(rng: &mut Rng, script: &mut Script, employers: u64) {
+    let entry = |rng: &mut Rng| Entry {
+        fein: rng.pick(&[0, 999_999_999, 4_294_967_295, 4_294_967_296, 9_999_999_999]),
+        count: rng.pick(&[0, 100_000, 4_294_967_295, 4_294_967_296, 9_999_999_999]),
+        cents: rng.pick(&[0, 99_999_999_999_999, 9_999_999_999_999_999_999]),
+    };
+    script.set_tables(&Tables {
+        ids: Vec::new(),
+        list: (0..KEPT.employers).map(|_| entry(rng)).collect(),
+    });
+    script.set_state(State {
+        employers,
+        s: 100_000,
+        cents: 100_000 * 99_999_999_999_999,
+        ..accepted()
+    });
+    every_length(script, &[0, 11, 12]);
+}
+
+/// No id table is lent, so none is compared; nor is an open E's number when none is open.
+fn no_table_lent(script: &mut Script) {
+    for standing in [Standing::Accepted, in_each_phase()[2].state.standing] {
+        for ids_in_use in [0, 40, 41, 9_999_999_999] {
+            let open = OpenE {
+                ids_in_use,
+                ..in_each_phase()[2].state.open
+            };
+            script.set_state(State {
+                open,
+                standing,
+                ..accepted()
+            });
+            script.frames(2, 105);
+        }
+    }
+}
+
+/// States that are fit but for one or two of their numbers.
+fn altered(rng: &mut Rng, script: &mut Script) {
+    let mut state = accepted();
+    near::alter(rng, &mut state);
+    script.set_state(state);
+    script.frames(rng.pick(&[1, 2, 3, 12]), rng.pick(&[17, 104, 105, 500]));
+}
+
+/// The frames behind a whole file, accepted and refused.
+fn whole_files(script: &mut Script) {
+    let file = base().file();
+    for length in [file.len(), file.len() - 1, 300, 0] {
+        script.lent = LENT;
+        script.whole(HELD, &file[..length]);
+        script.frames(LENT.employers, LONGEST_BUFFER);
+    }
+}

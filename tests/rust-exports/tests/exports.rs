@@ -1,0 +1,231 @@
+//! The exports called from Rust: the examples, the numbers of each call, and the generated files of
+//! the reference.
+
+use std::fs;
+use std::path::{Path, PathBuf};
+use wage::{exports, Employer, Refusal, Walk};
+
+const YEAR: u64 = 2026;
+const MONTH: u64 = 6;
+const STANDING: usize = 0;
+const REFUSAL: usize = 1;
+const S_FOLLOW: usize = 10;
+
+fn example(name: &str) -> Vec<u8> {
+    let path = Path::new(env!("CARGO_MANIFEST_DIR")).join("../../examples");
+    fs::read(path.join(name)).expect("the example is there")
+}
+
+/// The example files.
+fn examples() -> Vec<PathBuf> {
+    let path = Path::new(env!("CARGO_MANIFEST_DIR")).join("../../examples");
+    let files = fs::read_dir(path).expect("the folder is there");
+    let paths = files.map(|file| file.expect("it can be read").path());
+    let is_text = |path: &PathBuf| path.extension().is_some_and(|end| end == "txt");
+    paths.filter(is_text).collect()
+}
+
+fn number(answer: Result<usize, Refusal>) -> u64 {
+    answer.expect_err("it is refused").number
+}
+
+#[test]
+fn whole_files() {
+    assert!(examples().len() >= 5);
+    for path in examples() {
+        let mut walk = Walk::new(8192, 1024);
+        let answer = walk.whole(YEAR, MONTH, &fs::read(&path).unwrap());
+        let accepted = path
+            .file_name()
+            .unwrap()
+            .to_string_lossy()
+            .starts_with("accepted");
+        assert_eq!(answer.is_ok(), accepted, "{}", path.display());
+        let frames = fs::read(path.with_extension("frames")).unwrap();
+        assert_eq!(walk.frames(), Ok(frames), "{}", path.display());
+    }
+}
+
+/// Calls that are lent 292 bytes leave what the call over the whole file leaves.
+#[test]
+fn files_line_by_line() {
+    for path in examples() {
+        let (mut walk, mut other) = (Walk::new(9, 3), Walk::new(9, 3));
+        let file = fs::read(path).unwrap();
+        let mut rest = &file[..];
+        walk.open(YEAR, MONTH).unwrap();
+        while let Some(Ok(taken)) =
+            (!rest.is_empty()).then(|| walk.line(&rest[..rest.len().min(292)]))
+        {
+            rest = &rest[taken..];
+        }
+        assert_eq!(walk.end(), other.whole(YEAR, MONTH, &file));
+        assert_eq!(walk, other);
+    }
+}
+
+#[test]
+fn employers_of_a_file() {
+    let mut walk = Walk::new(2, 3);
+    walk.whole(YEAR, MONTH, &example("accepted-one-employer.txt"))
+        .unwrap();
+    let entry = Employer {
+        fein: 12_345_678,
+        count: 2,
+        cents: 123_500,
+    };
+    assert_eq!(walk.list, [entry, Employer::default(), Employer::default()]);
+    assert_eq!(walk.ids, [0, 0]);
+}
+
+/// A T and an F that the library writes in place of the file's own.
+#[test]
+fn records_written() {
+    let file = example("accepted-one-employer.txt");
+    let mut walk = Walk::new(2, 1);
+    let (mut rest, mut out) = (&file[..], [b'.'; 292]);
+    walk.open(YEAR, MONTH).unwrap();
+    while !rest.is_empty() {
+        match rest[0] {
+            b'T' => walk.write_t(&mut out[..290]).unwrap(),
+            b'F' => walk.write_f(&mut out[..290]).unwrap(),
+            _ => out.copy_from_slice(&[&rest[..291], b"."].concat()),
+        }
+        out[290] = b'\n';
+        assert_eq!(out[..291], rest[..291]);
+        assert_eq!(walk.line(&out), Ok(291));
+        rest = &rest[291..];
+    }
+    assert_eq!(walk.write_t(&mut out[..289]).unwrap_err().number, 83);
+    assert_eq!(walk.write_f(&mut out[..290]).unwrap_err().number, 80);
+    assert_eq!(walk.end(), Ok(()));
+}
+
+#[test]
+fn walks_that_have_ended_or_not() {
+    let mut walk = Walk::new(2, 1);
+    let mut out = [b'.'; 70];
+    walk.open(YEAR, MONTH).unwrap();
+    assert_eq!(number(walk.frames_into(&mut out)), 87);
+    walk.whole(YEAR, MONTH, &example("accepted-one-employer.txt"))
+        .unwrap();
+    let kept = walk.clone();
+    assert_eq!(walk.end().unwrap_err().number, 71);
+    assert_eq!(number(walk.line(b"A\n")), 71);
+    assert_eq!(number(walk.frames_into(&mut out[..69])), 88);
+    assert_eq!(out, [b'.'; 70]);
+    assert_eq!(walk.frames_into(&mut out), Ok(70));
+    assert_eq!(walk, kept);
+    let refusal = Refusal {
+        number: 70,
+        line: 0,
+        column: 0,
+    };
+    assert_eq!(walk.open(YEAR, 5), Err(refusal));
+    assert_eq!(walk.end(), Err(refusal));
+    assert_eq!(walk.list, kept.list);
+}
+
+/// Words that tell no walk, which all stay; a flag of 2, which is 1.
+#[test]
+fn words_altered() {
+    let mut walk = Walk::new(2, 1);
+    assert_eq!(walk.end().unwrap_err().number, 72);
+    walk.open(YEAR, MONTH).unwrap();
+    for (place, word) in [(STANDING, 7), (STANDING, u64::MAX), (REFUSAL, 9)] {
+        let mut other = walk.clone();
+        other.state[STANDING] = 6;
+        other.state[place] = word;
+        let kept = other.clone();
+        assert_eq!(number(other.line(b"A\n")), 72);
+        assert_eq!(other.end().unwrap_err().number, 72);
+        assert_eq!(number(other.frames_into(&mut [0; 17])), 72);
+        assert_eq!(other, kept);
+    }
+    walk.state[S_FOLLOW] = 2;
+    let file = example("accepted-one-employer.txt");
+    assert_eq!(walk.line(&file), Ok(291));
+    assert_eq!(walk.line(&file[291..]), Ok(291));
+    walk.state[S_FOLLOW] = 2;
+    assert_eq!(walk.line(&file[582..]), Ok(291));
+    assert_eq!(walk.state[S_FOLLOW], 1);
+}
+
+/// Fewer words of state and of the answer than there are.
+#[test]
+fn words_lent_short() {
+    let (mut state, mut answer) = ([5; 16], [5; 4]);
+    let mut ids = [5];
+    let none = std::ptr::NonNull::dangling().as_ptr();
+    let number = unsafe {
+        exports::wage_open(
+            YEAR,
+            MONTH,
+            state.as_mut_ptr(),
+            state.len(),
+            answer.as_mut_ptr(),
+            2,
+            ids.as_mut_ptr(),
+            ids.len(),
+            none,
+            0,
+        )
+    };
+    assert_eq!(
+        (number, state, answer, ids),
+        (72, [5; 16], [72, 0, 5, 5], [5])
+    );
+}
+
+/// The inputs of the reference: eight digits of the length, a blank, five digits, LF, the bytes.
+fn inputs(text: &[u8]) -> Vec<&[u8]> {
+    let (mut found, mut rest) = (Vec::new(), text);
+    while !rest.is_empty() {
+        let length = std::str::from_utf8(&rest[..8])
+            .unwrap()
+            .parse::<usize>()
+            .unwrap();
+        found.push(&rest[15..15 + length]);
+        rest = &rest[15 + length..];
+    }
+    found
+}
+
+/// The quarter of an input's header and the file behind it; no quarter where it has none.
+fn header(input: &[u8]) -> (u64, &[u8]) {
+    match input.split_at_checked(7) {
+        Some((head, file)) if head[6] == b'\n' && head[..6].iter().all(u8::is_ascii_digit) => (
+            std::str::from_utf8(&head[..6]).unwrap().parse().unwrap(),
+            file,
+        ),
+        _ => (0, &[]),
+    }
+}
+
+/// `reference cases` writes two files; where they are is told by WAGE_INPUTS and WAGE_EXPECTED.
+#[test]
+fn files_of_the_reference() {
+    let Some((given, expected)) =
+        std::env::var_os("WAGE_INPUTS").zip(std::env::var_os("WAGE_EXPECTED"))
+    else {
+        return;
+    };
+    let (given, expected) = (
+        fs::read(given).unwrap(),
+        fs::read_to_string(expected).unwrap(),
+    );
+    let given = inputs(&given);
+    let expected: Vec<&str> = expected.split(".\n").collect();
+    assert_eq!(given.len() + 1, expected.len());
+    for (k, (input, frames)) in given.iter().zip(expected).enumerate() {
+        let (quarter, file) = header(input);
+        let mut walk = Walk::new(8192, 1024);
+        let _ = walk.whole(quarter / 100, quarter % 100, file);
+        assert_eq!(
+            String::from_utf8(walk.frames().unwrap()).unwrap(),
+            frames,
+            "case {k}"
+        );
+    }
+    println!("{} files of the reference", given.len());
+}
