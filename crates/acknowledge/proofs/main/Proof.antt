@@ -56,7 +56,7 @@ module _ {M : Type 1} (𝓤 : URA M) (H : Heap 𝓤) (A : Atoms 𝓤) (W : Given
       sets ! (addr ! (from ! (stop !))) 6 refl (tt, tt) $ sets ! (agg ! (and-then ! (var ! 6 refl) (and-then ! (big-lit ! (record { fits = lit< tt })) (no-more !)))) 4 refl (tt, (tt, (record { fits = lit< tt }, tt))) $
       sets ! (addr ! (from ! (stop !))) 2 refl (tt, tt) $ sets ! (agg ! (and-then ! (var ! 2 refl) (and-then ! (big-lit ! (record { fits = lit< tt })) (no-more !)))) 0 refl (tt, (tt, (record { fits = lit< tt }, tt))) $
       move ! (26 ∷ 24 ∷ 20 ∷ 18 ∷ []) $ lends-arrays sizes (at 1) (at 2) (at 4) (at 5) ! tt (λ ν₀ ν₁ ν₂ ν₃ γ₀ γ₁ γ₂ γ₃.
-      -- [four tokens; the slices; the lender's parts; _14 at 12; …; _6 at 28; that _5 dies at 30, and _4 at 31; _3 at 32; that _2 dies at 34, and _1 at 35; _0 at 36]
+      -- [four tokens; the slices; the lender's parts; _14 at 12; …; _6 at 28; that _5 dies at 30, and _4 at 31; _3 at 32; …]
       asks ! (run-call W mem run) known (fmOf 𝓤 H (W .laws) 𝓣) (
         (
           (ν₀ ∷ [], (ν₁ ∷ [], (ν₂ ∷ [], (ν₃ ∷ [], tt)))),
@@ -69,7 +69,8 @@ module _ {M : Type 1} (𝓤 : URA M) (H : Heap 𝓤) (A : Atoms 𝓤) (W : Given
       ) tt
       8 (held, (held, (held, (held, tt)))) refl (and-then ! (var ! 24 refl) (and-then ! (var ! 20 refl) (and-then ! (var ! 16 refl) (and-then ! (var ! 12 refl) (no-more !))))) (λ _ ws _ _.
       receives ! 28 refl (tt, tt) $ arrays-back sizes (at 1) (at 2) (at 4) (at 5) ! tt γ₀ γ₁ γ₂ γ₃ (ws .0) (ws .1 .0) (ws .1 .1 .0) (ws .1 .1 .1 .0) (
-      -- [_1; _2; _4; _5; _14 at 4; …; _6 at 20; that _5 dies at 22, and _4 at 23; _3 at 24; that _2 dies at 26, and _1 at 27; _0 at 28]: each goes back to its place
+      -- [_1; _2; _4; _5; _14 at 4; …; _6 at 20; that _5 dies at 22, and _4 at 23; _3 at 24; that _2 dies at 26, and _1 at 27; …]:
+      -- each goes back to its place
       move ! (4 ∷ 5 ∷ 6 ∷ 7 ∷ 8 ∷ 9 ∷ 10 ∷ 11 ∷ 12 ∷ 13 ∷ 14 ∷ 15 ∷ 16 ∷ 17 ∷ 18 ∷ 19 ∷ 20 ∷ 21 ∷ 3 ∷ 22 ∷ 2 ∷ 23 ∷ 24 ∷ 25 ∷ 1 ∷ 26 ∷ 0 ∷ []) $
       sets ! (of-opd ! (unit-lit !)) 28 refl (tt, tt) $ returns ! (look ! 28 refl) $ lets-go ! 0 refl $
       by ! (finishes W f.ended ends (f.clauses 𝓤 H A mem run) y vunit tt tt tt (Unit {0}) (unsaid 𝓤) tt (nothing-makes 𝓤 H A W tt (vunit ∷ []) refl)))))

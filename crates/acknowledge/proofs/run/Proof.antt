@@ -103,7 +103,9 @@ module _ {M : Type 1} (𝓤 : URA M) (H : Heap 𝓤) (A : Atoms 𝓤) (W : Given
   left k = k .at .turns
 
   -- with more values of locals, behind those of the parameters and of _5
-  -- [the tokens; the slices; _26 at 8; _25 at 10; _24 at 12; _23 at 14; _22 at 16; _21 at 18; _20 at 20; _19 at 22; _18 at 24; _17 at 26; _16 at 28; _15 at 30; _14 at 32; _13 at 34; _12 at 36; _11 at 38; _10 at 40; _9 at 42; _8 at 44; _7 at 46; _6 at 48; _5 at 50; _4 at 52; _3 at 54; _2 at 56; _1 at 58; _0 at 60]
+  -- [the tokens; the slices; _26 at 8; _25 at 10; _24 at 12; _23 at 14; _22 at 16; _21 at 18; _20 at 20; _19 at 22;
+  --  _18 at 24; _17 at 26; _16 at 28; _15 at 30; _14 at 32; _13 at 34; _12 at 36; _11 at 38; _10 at 40; _9 at 42; _8 at 44;
+  --  _7 at 46; _6 at 48; _5 at 50; _4 at 52; _3 at 54; _2 at 56; _1 at 58; _0 at 60]
   abbrev AtWith : Far → List (Option Val) → List (Item 𝓤)
   AtWith k vs = Having L (k .lists) (locals En (none ∷ some s₀ ∷ some s₁ ∷ some s₂ ∷ some s₃ ∷ some (between-val (k .at)) ∷ vs) [])
 
