@@ -77,6 +77,19 @@ def numbers():
     for v in ("665999999", "666000001", "666999999", "667000000", "900000000", "999999999", "899999999", "000000000", "9A0000000", "066600000",
               "123456789", "66600000", "912501234", "966500000"):
         yield 25, 1, 9, v
+    yield from itins()
+
+
+def itins():
+    """Every fourth and fifth digit behind 9; about the ends of the ranges behind other digits too; what is no number of nine digits."""
+    for middle in range(100):
+        yield 25, 1, 9, "966%02d6700" % middle
+    for middle in (49, 50, 65, 66, 69, 70, 88, 89, 90, 92, 93, 94, 99):
+        for front in ("099", "666", "899", "900", "999"):
+            yield 25, 1, 9, "%s%02d9999" % (front, middle)
+    for text in ("9005000000", "90050000", "0900500000", "1950700000", "95070000A", "9A0700000", "900A00000", "90070 000"):
+        yield 25, 1, len(text), text
+        yield 25, 2, 10, "S" + text
 
 
 def texts():

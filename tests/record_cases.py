@@ -6,7 +6,9 @@
     tests/record_cases.py --seed N FILE   write other cases to FILE, and their verdicts to FILE.told
 
 The columns are those of the product's list of fields, which tests/compare_source.py holds to the source; every rule is written here anew.
+The first lines are S records about the ends of what may be filed as an identity number; the others come by chance.
 """
+import itertools
 import os
 import random
 import re
@@ -32,6 +34,8 @@ CLASS = {
     "BLANK_SPACE": ref.BLANK, "NUMERIC": ref.NUMERIC, "ACCOUNT_NUMBER": ref.ACCOUNT, "REQUIRED_TEXT": ref.REQUIRED, "OPTIONAL_TEXT": ref.OPTIONAL,
     "PERSON_NAME": ref.NAME, "TAX_YEAR": ref.YEAR, "EMPLOYER_FEIN": ref.FEIN, "IDENTITY_NUMBER": ref.IDENTITY, "CEASE_DATE": ref.DATE,
 }
+# document 01: "begins with 666 or 9"; document 02 (i): behind 9 only where the fourth and fifth digits are not 50 to 65, 70 to 88, 90 to 92, 94 to 99
+REFUSED_IDENTITY = re.compile("666|9..([0-4].|6[6-9]|89|93)")
 
 
 def cut(data):
@@ -104,7 +108,7 @@ def rule(letter, name, a, b, text, c):
     if name == "CEASE_DATE":
         return cease_date(text, v, c)
     if name == "IDENTITY_NUMBER":
-        if text[1:4] == "666" or text[1] == "9":
+        if REFUSED_IDENTITY.match(text[1:10]):
             return 52
         return 0 if v == 0 else 53 if c["seen_id"] else 62 if c["ids_full"] else 0
     if (letter, a) in (("S", 147), ("T", 13)):
@@ -205,16 +209,22 @@ def context(letter, pick):
         list_full=rare(), seen_fein=rare(), seen_id=rare())
 
 
+def identity_lines():
+    """S records in the contexts that chance gives them, but for where they stand: 52 or what comes behind it."""
+    pick = random.Random(52)
+    ends = ["966%02d6700" % middle for middle in (49, 50, 65, 66, 69, 70, 88, 89, 90, 92, 93, 94, 99)]
+    for identity in ["665999999", "666000001", "899999999"] + ends:
+        c = dict(context("S", pick), phase=2, follow=1, all_count=7)
+        yield c, put(good_record("S", c, pick), 2, identity) + "\n"
+
+
 def header(c):
     return "%d%04d%02d%04d%02d%09d%d%07d%014d%07d%07d%015d%d%d%d%d|" % (
         c["phase"], *c["held"], *c["filed"], c["fein"], c["follow"], c["count"], c["sum"], c["all_count"], c["employers"], c["all_sum"], c["ids_full"],
         c["list_full"], c["seen_fein"], c["seen_id"])
 
 
-def made(seed):
-    pick = random.Random(seed)
-    given, told = [], []
-    size = 0
+def lines_by_chance(pick):
     while True:
         letter = pick.choice(LETTERS)
         c = context(letter, pick)
@@ -226,12 +236,20 @@ def made(seed):
         data = text + pick.choice(("\n", "\r", "\r\n", "\r\n"))
         if pick.random() < 0.02:
             data = text
+        yield c, data
+
+
+def made(seed):
+    given, told = [], []
+    size = 0
+    for c, data in itertools.chain(identity_lines(), lines_by_chance(random.Random(seed))):
         case = header(c) + data + "#"
         size += len(case)
         if size > ROOM:
-            return "".join(given), "".join(told)
+            break
         given.append(case)
         told.append("%d %d\n" % judge(c, data))
+    return "".join(given), "".join(told)
 
 
 def write(path, text):

@@ -1,4 +1,4 @@
-"""The rules of document 01 for single fields, lines and dates, written from the paper alone.
+"""The rules of document 01 for single fields, lines and dates, as document 02 amends them, written from the papers alone.
 
 It shares nothing with the product: the tests compare what the two say. A finding is (number, column), (0, 0) where nothing is
 broken; a reading adds the value. Columns are counted from 1; behind a line's end there is no character.
@@ -109,8 +109,15 @@ def read_fein(text, first, last):
     return read_rule(lambda v: not ("%09d" % v).startswith("69") or v > 999999999, 44, False, text, first, last)
 
 
+def may_be_filed(digits):
+    """Of nine digits. Behind 9 the IRS issues no 00 to 49, no 66 to 69, no 89 and no 93 as the fourth and fifth (document 02, i)."""
+    if digits.startswith("9"):
+        return digits[3:5] >= "50" and digits[3:5] not in ("66", "67", "68", "69", "89", "93")
+    return not digits.startswith("666")
+
+
 def read_identity(text, first, last):
-    return read_rule(lambda v: not ("%09d" % v).startswith(("666", "9")) or v > 999999999, 52, False, text, first, last)
+    return read_rule(lambda v: v > 999999999 or may_be_filed("%09d" % v), 52, False, text, first, last)
 
 
 def entity(text, first):

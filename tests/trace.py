@@ -1,10 +1,11 @@
 #!/usr/bin/env python3
-"""Holds docs/TRACE.md to document 01 and to the crates.
+"""Holds docs/TRACE.md to document 01, to the requests of document 02 that have landed, and to the crates.
 
-    tests/trace.py [DOCUMENTS]     the folder that holds 01-scope.md, ../shared/documents if not given
+    tests/trace.py [DOCUMENTS]     the folder that holds the two papers, ../shared/documents if not given
 
-Every sentence of document 01 stands in the table, in the paper's order and in its words; no row speaks of a sentence that the paper does not
-have; and each name in `backquotes` of the second column is a file of the repository or stands in one of the crates.
+Every sentence of document 01 stands in the table, in the paper's order and in its words, and behind them every sentence of each request that has a
+note in docs/changes; no row speaks of a sentence that the papers do not have; and each name in `backquotes` of the second column is a file of the
+repository or stands in one of the crates.
 """
 import os
 import re
@@ -51,6 +52,17 @@ def sentences(path):
     return found
 
 
+def requests(path):
+    """The sentences of the requests of document 02 that have a note: docs/changes/i.md for (i)."""
+    found = []
+    with open(path, encoding="utf-8") as f:
+        for line in f:
+            request = re.match(r"\*\*\(([ivx]+)\) [^*]+\*\* (.*)", line)
+            if request and os.path.exists(os.path.join(ROOT, "docs", "changes", request[1] + ".md")):
+                found.extend(split("", request[2]))
+    return found
+
+
 def rows(path):
     """The first two columns of every row of docs/TRACE.md's tables."""
     with open(path, encoding="utf-8") as f:
@@ -73,11 +85,12 @@ def all_text():
 
 def main():
     folder = sys.argv[1] if len(sys.argv) > 1 else os.path.join(ROOT, "..", "shared", "documents")
-    paper = os.path.join(folder, "01-scope.md")
-    if not os.path.exists(paper):
-        print("no " + paper + ": give the folder of the documents as the first argument")
-        return 2
-    asked = [s for _, s in sentences(paper)]
+    papers = [os.path.join(folder, name) for name in ("01-scope.md", "02-change-requests.md")]
+    for paper in papers:
+        if not os.path.exists(paper):
+            print("no " + paper + ": give the folder of the documents as the first argument")
+            return 2
+    asked = [s for _, s in sentences(papers[0])] + requests(papers[1])
     table = list(rows(os.path.join(ROOT, "docs", "TRACE.md")))
     told = [t for t, _ in table]
     failures = []
@@ -86,9 +99,9 @@ def main():
             failures.append("not in docs/TRACE.md: " + s)
     for t in told:
         if t not in asked:
-            failures.append("no sentence of document 01: " + t)
+            failures.append("no sentence of the papers: " + t)
     if not failures and told != asked:
-        failures.append("the rows are not in the paper's order")
+        failures.append("the rows are not in the papers' order")
     everything = all_text()
     for t, where in table:
         if not where:
@@ -101,7 +114,7 @@ def main():
     for f in failures:
         print("FAILED " + f)
     done = sum(1 for _, w in table if not w.startswith("not yet"))
-    print("%d sentences of document 01, %d with a place, %d not yet" % (len(asked), done, len(table) - done))
+    print("%d sentences, %d with a place, %d not yet" % (len(asked), done, len(table) - done))
     print("%d passed, %d failed" % (len(asked) - min(len(failures), len(asked)), len(failures)))
     return 1 if failures else 0
 

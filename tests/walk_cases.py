@@ -793,6 +793,8 @@ def files_by_hand():
         ("the example", tried(joined(*EXAMPLE)), (GOOD, ACCEPTED, [0, 0], [(FEIN, 2, 123500), NO_ENTRY])),
         ("the example in small letters", tried(small), (GOOD, ACCEPTED, [0, 0], [(FEIN, 2, 123500), NO_ENTRY])),
         ("reason 52 at line 3, column 2", tried(joined(A, E, s_record(666000001, 1))), refused(52, 3, 2)),
+        ("an ITIN takes room and repeats as another number", replies(*[(A, E, s_record(900500000, 1), s_record(n, 1)) for n in (900500000, 999999999, 999930000)]),
+         [(53, 4, 2, 0), (7, 5, 1, 0), (52, 4, 2, 0)]),
         ("g. FEIN 690000000", tried(joined(A, e_record(690000000))), refused(44, 2, 6)),
         ("one person, two employers", tried(joined(*two), 1), (GOOD, ACCEPTED, [0], [(FEIN, 1, 1), (7, 1, 2)])),
         ("i. zero twice, and no room", tried(joined(A, E, s_record(0, 1), s_record(0, 1), t_record(2, 2), f_record(2, 1, 2)), 0),

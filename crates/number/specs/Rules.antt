@@ -1,6 +1,6 @@
 -- The rules of fields that read as numbers.
-use Prim.Native.Nat.{ℕ, _/_}
-use mathlib.Core.Bool.{Bool, not, _||_}
+use Prim.Native.Nat.{ℕ, _/_, _%_}
+use mathlib.Core.Bool.{Bool, not, _&&_, _||_}
 use mathlib.Core.List.{List}
 use lib.Dec.{eqb, leb}
 use Rattle.laws.specs.Choice.{if_then_else_}
@@ -37,9 +37,21 @@ beginsWith69 fein = eqb (fein / 10000000) 69
 unfoldable pub feinIn : List ℕ → ℕ → ℕ → Reading
 feinIn line first last = onlyIf (λ fein. not (beginsWith69 fein)) first 44 (numberIn line first last)
 
--- An identity number that may be filed. "S identity number: begins with 666 or 9 52." It has nine digits.
+abbrev pub isFromTo : ℕ → ℕ → ℕ → Bool
+isFromTo first last n = leb first n && leb n last
+
+-- The fourth and fifth digits of an ITIN: "50 to 65, 70 to 88, 90 to 92 or 94 to 99, as the IRS issues them" (document 02, i).
+unfoldable pub areIssued : ℕ → Bool
+areIssued digits = isFromTo 50 65 digits || isFromTo 70 88 digits || isFromTo 90 92 digits || isFromTo 94 99 digits
+
+-- Of nine digits: four more stand behind them.
+abbrev pub fourthAndFifth : ℕ → ℕ
+fourthAndFifth id = id / 10000 % 100
+
+-- An identity number that may be filed. It has nine digits. One that begins with 9 "passes when its fourth and fifth digits are" those of an ITIN
+-- that the IRS issues, "Otherwise it is refused as before"; of the others document 01 says "begins with 666 [...] 52."
 unfoldable pub mayBeFiled : ℕ → Bool
-mayBeFiled id = not (eqb (id / 1000000) 666 || eqb (id / 100000000) 9)
+mayBeFiled id = if eqb (id / 100000000) 9 then areIssued (fourthAndFifth id) else not (eqb (id / 1000000) 666)
 
 unfoldable pub identityIn : List ℕ → ℕ → ℕ → Reading
 identityIn line first last = onlyIf mayBeFiled first 52 (numberIn line first last)

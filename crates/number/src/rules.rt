@@ -4,7 +4,7 @@ use reason::Reason;
 ghost use mathlib.Core.Path.{_≡_};
 ghost use Rattle.chars.specs.Characters.{capitals};
 ghost use Rattle.number.specs.Numbers.{readingOf};
-ghost use Rattle.number.specs.Rules.{yearIn, periodIn, flagIn, beginsWith69, feinIn, mayBeFiled, identityIn};
+ghost use Rattle.number.specs.Rules.{yearIn, periodIn, flagIn, beginsWith69, feinIn, isFromTo, areIssued, fourthAndFifth, mayBeFiled, identityIn};
 
 pub fn read_year(line: &[u8], first: u16, last: u16) -> Number
     ensures { λ r. ⌜ readingOf r ≡ yearIn (capitals (now (line .entry))) first last ⌝ }
@@ -64,14 +64,45 @@ pub fn read_fein(line: &[u8], first: u16, last: u16) -> Number
     n
 }
 
-// Whether an identity number may be filed.
+fn is_from_to(n: u64, first: u64, last: u64) -> bool
+    ensures { λ r. ⌜ r ≡ isFromTo first last n ⌝ }
+{
+    if n < first {
+        return false;
+    }
+    n <= last
+}
+
+// Whether the IRS issues ITINs with these fourth and fifth digits.
+fn are_issued(digits: u64) -> bool
+    ensures { λ r. ⌜ r ≡ areIssued digits ⌝ }
+{
+    if is_from_to(digits, 50, 65) {
+        return true;
+    }
+    if is_from_to(digits, 70, 88) {
+        return true;
+    }
+    if is_from_to(digits, 90, 92) {
+        return true;
+    }
+    is_from_to(digits, 94, 99)
+}
+
+fn fourth_and_fifth(id: u64) -> u64
+    ensures { λ r. ⌜ r ≡ fourthAndFifth id ⌝ }
+{
+    id / 10000 % 100
+}
+
+// Whether an identity number may be filed. One that begins with 9 is an ITIN.
 pub fn may_be_filed(id: u64) -> bool
     ensures { λ r. ⌜ r ≡ mayBeFiled id ⌝ }
 {
-    if id / 1000000 == 666 {
-        return false;
+    if id / 100000000 == 9 {
+        return are_issued(fourth_and_fifth(id));
     }
-    id / 100000000 != 9
+    id / 1000000 != 666
 }
 
 pub fn read_identity(line: &[u8], first: u16, last: u16) -> Number

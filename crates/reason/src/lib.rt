@@ -87,7 +87,7 @@ pub enum Reason {
     DateNotFinal,
     // 51: No cease date with 282 at 1.
     DateMissing,
-    // 52: Identity number that begins with 666 or 9.
+    // 52: Identity number that begins with 666, or with 9 and is no ITIN that the IRS issues.
     IdentityPrefix,
     // 53: Identity number already under this E.
     IdentityRepeated,

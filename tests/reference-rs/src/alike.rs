@@ -153,9 +153,15 @@ pub fn is_number(field: &[u8]) -> bool {
     field.iter().all(u8::is_ascii_digit)
 }
 
-/// "begins with 666 or 9 52". That a number repeats is no rule of the field by itself.
+/// "begins with 666 or 9 52"; by document 02 (i) those with 9 pass that the IRS issues. That a number
+/// repeats is no rule of the field by itself.
 pub fn is_identity(field: &[u8]) -> bool {
-    is_number(field) && !field.starts_with(b"666") && !field.starts_with(b"9")
+    let issued = |digits| matches!(digits, 50..=65 | 70..=88 | 90..=92 | 94..=99);
+    let passes = |id: u64| match id / 1_000_000 {
+        900..=999 => issued(id / 10_000 % 100),
+        front => front != 666,
+    };
+    is_number(field) && passes(value(field, (1, field.len())))
 }
 
 /// "required text, then only letters, blank, hyphen, apostrophe"
@@ -289,6 +295,12 @@ mod tests {
             assert!(is_identity(id));
         }
         for id in [b"666000000", b"666999999", b"900000000", b"12345678 "] {
+            assert!(!is_identity(id));
+        }
+        for id in [b"900500000", b"999659999", b"912701234", b"988889999"] {
+            assert!(is_identity(id));
+        }
+        for id in [b"999499999", b"900660000", b"950890000", b"970930000"] {
             assert!(!is_identity(id));
         }
         for name in [&b"O'NEIL-ROY  "[..], b"o'neil-roy  ", b"-", b"'  A"] {

@@ -240,7 +240,7 @@ fn one_more(rng: &mut Rng, which: u64) -> Case {
         // Fields of it that break edits do not count: number, name, FEIN.
         2 => {
             let mut draft = many_s(rng, MOST_S + 1);
-            let place = set_last_id(&mut draft, 999_999_999);
+            let place = set_last_id(&mut draft, 900_000_000);
             draft.lines[place].put(11, b" 1");
             draft.lines[place].put(147, b"000000000");
             draft

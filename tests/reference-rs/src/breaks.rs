@@ -727,8 +727,8 @@ fn flags_and_dates(list: &mut List) {
 fn employees(list: &mut List) {
     list.in_line(52, b'S', "identity number", |rng, line| {
         let with_666 = 666_000_000 + rng.below(1_000_000);
-        let with_9 = rng.between(900_000_000, 999_999_999);
-        let id = rng.pick(&[with_666, with_9, 666_000_000, 666_999_999, 900_000_000]);
+        let with_9 = no_itin(rng);
+        let id = rng.pick(&[with_666, with_9, with_9, with_9, 666_000_000, 666_999_999]);
         line.put_number(2, 10, id);
         Some(2)
     });

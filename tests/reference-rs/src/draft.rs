@@ -453,18 +453,38 @@ pub fn random_fein(rng: &mut Rng) -> u64 {
     }
 }
 
-/// An identity number, not zero, that begins neither with 666 nor with 9.
+/// An identity number, not zero, that may be filed: an ITIN, or one that begins neither with 666 nor
+/// with 9.
 pub fn random_id(rng: &mut Rng) -> u64 {
     loop {
         let id = match rng.below(8) {
             0 => rng.between(1, 99),
             1 => rng.between(665_000_000, 667_999_999),
+            2 | 3 => random_itin(rng),
             _ => rng.between(1, 899_999_999),
         };
         if id / 1_000_000 != 666 {
             return id;
         }
     }
+}
+
+/// A number that begins with 9, as the IRS issues them.
+pub fn random_itin(rng: &mut Rng) -> u64 {
+    behind_nine(rng, &[(50, 65), (70, 88), (90, 92), (94, 99)])
+}
+
+/// A number that begins with 9, as the IRS issues none.
+pub fn no_itin(rng: &mut Rng) -> u64 {
+    behind_nine(rng, &[(0, 49), (66, 69), (89, 89), (93, 93)])
+}
+
+/// Its fourth and fifth digits are of one of the ranges, most often the first or last there.
+fn behind_nine(rng: &mut Rng, ranges: &[(usize, usize)]) -> u64 {
+    let (first, last) = rng.pick(ranges);
+    let front = rng.between(900, 999);
+    let middle = rng.end_or_between(first, last) as u64;
+    (front * 100 + middle) * 10_000 + rng.below(10_000)
 }
 
 pub fn random_wages(rng: &mut Rng) -> u64 {

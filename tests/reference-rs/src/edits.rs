@@ -429,17 +429,29 @@ fn cease_date(record: &Record, field: &Field, before: &dyn Before) -> Finding {
 }
 
 /// "S identity number: begins with 666 or 9 52. 000000000 means applied for and may repeat. Another
-/// number: already under this E 53, then id table full 62; only such numbers take room."
+/// number: already under this E 53, then id table full 62; only such numbers take room." Document 02
+/// (i) lets those ITINs through that the IRS issues.
 fn identity(record: &Record, field: &Field, before: &dyn Before) -> Finding {
     let id = record.number(field)?;
     let text = record.field(field);
-    let forbidden = text.starts_with(b"666") || text.starts_with(b"9");
+    let forbidden = text.starts_with(b"666") || text.starts_with(b"9") && !is_issued(&text);
     refuse_if(forbidden, 52, field.first)?;
     if id == 0 {
         return Ok(());
     }
     refuse_if(before.id_since_e(id), 53, field.first)?;
     refuse_if(before.id_table_full(), 62, field.first)
+}
+
+/// "its fourth and fifth digits are 50 to 65, 70 to 88, 90 to 92 or 94 to 99, as the IRS issues them"
+fn is_issued(itin: &[u8]) -> bool {
+    match (itin[3], itin[4]) {
+        (b'5' | b'7', _) => true,
+        (b'6', fifth) => fifth <= b'5',
+        (b'8', fifth) => fifth <= b'8',
+        (b'9', fifth) => fifth != b'3',
+        _ => false,
+    }
 }
 
 /// "S names: required text, then only letters, blank, hyphen, apostrophe (54 at the first other)."

@@ -22,7 +22,7 @@ pub fn add(list: &mut List) {
     accounts(list);
 }
 
-/// Around 666 and 9, and what only looks like them.
+/// Around 666 and 9, around the ends of what the IRS issues behind 9, and what only looks like them.
 fn identity_prefixes(list: &mut List) {
     let passing = [
         "000000000",
@@ -36,6 +36,18 @@ fn identity_prefixes(list: &mut List) {
         "667000000",
         "676666666",
         "899999999",
+        "900500000",
+        "950500000",
+        "999659999",
+        "900700000",
+        "966706700",
+        "999889999",
+        "900900000",
+        "966916700",
+        "999929999",
+        "900940000",
+        "966990000",
+        "999999999",
     ];
     let others = [
         "666000000",
@@ -45,8 +57,16 @@ fn identity_prefixes(list: &mut List) {
         "900000000",
         "900000001",
         "912345678",
-        "950500000",
-        "999999999",
+        "950050505",
+        "955495555",
+        "999499999",
+        "900660000",
+        "999699999",
+        "900890000",
+        "988898888",
+        "999899999",
+        "900930000",
+        "999939999",
     ];
     for id in passing.into_iter().chain(others) {
         let mut draft = example(Q1, Q1);

@@ -147,12 +147,14 @@ fn any_name(rng: &mut Rng, width: usize) -> Vec<u8> {
 }
 
 /// Numbers at the ends of what may be filed.
-const EDGES: [u64; 6] = [
+const EDGES: [u64; 8] = [
     1,
     99_999_999,
     665_999_999,
     667_000_000,
     899_999_999,
+    900_500_000,
+    999_999_999,
     69_000_000,
 ];
 

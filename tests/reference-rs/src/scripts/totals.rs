@@ -110,7 +110,7 @@ fn last_s(script: &mut Script) {
         (state.open.s, state.open.cents) = (99_999, before);
     });
     script.line(&s_line(script, 0, MOST_WAGES));
-    script.line(&s_line(script, 999_999_999, 0));
+    script.line(&s_line(script, 900_000_000, 0));
     script.end();
     script.line(b"");
 }

@@ -174,6 +174,27 @@ fn h_identity_numbers() {
     );
 }
 
+/// Document 02 (i): "Such a number passes when its fourth and fifth digits are 50 to 65, 70 to 88, 90
+/// to 92 or 94 to 99 [...] Otherwise it is refused as before." The digits beside them do not count.
+#[test]
+fn identity_numbers_with_nine_in_front() {
+    let passing: Vec<u64> = (50..=65)
+        .chain(70..=88)
+        .chain(90..=92)
+        .chain(94..=99)
+        .collect();
+    assert_eq!(passing.len(), 16 + 19 + 3 + 6);
+    for digits in 0..100 {
+        for (front, behind) in [("900", "0000"), ("966", "6700"), ("999", "9999")] {
+            let draft = with(3, 2, format!("{front}{digits:02}{behind}").as_bytes());
+            match passing.contains(&digits) {
+                true => assert!(is_accepted(&draft), "{digits}"),
+                false => assert_eq!(outcome(&draft.input()), refused(52, 3, 2), "{digits}"),
+            }
+        }
+    }
+}
+
 /// "i. 000000000 twice under one E passes."
 #[test]
 fn i_applied_for() {

@@ -3,6 +3,7 @@
 use super::{refused, Q1};
 use crate::ack::outcome;
 use crate::agree;
+use crate::alike::is_identity;
 use crate::big;
 use crate::draft::*;
 use crate::edits::Refusal;
@@ -11,6 +12,7 @@ use crate::meaning::{acknowledge, Entry, Outcome, Room};
 use crate::rng::Rng;
 use crate::tally::Tally;
 use crate::walk;
+use std::collections::HashSet;
 
 /// The maker of each case knows what it gets, and the readings here agree.
 #[test]
@@ -29,6 +31,28 @@ fn generated_cases() {
         assert_eq!(agreed, Ok(()), "{}", case.name);
     }
     assert_eq!(tally.finish(promised), Ok(()));
+}
+
+/// Numbers with 9 in front come often, and with each end of what the IRS issues and does not.
+#[test]
+fn generated_itins() {
+    let mut rng = Rng::of(3, 61, 0);
+    let (mut fronts, mut ends) = (0, HashSet::new());
+    for _ in 0..2_000 {
+        let (issued, not_issued, any) = (
+            random_itin(&mut rng),
+            no_itin(&mut rng),
+            random_id(&mut rng),
+        );
+        let passes = |id: u64| is_identity(format!("{id:09}").as_bytes());
+        assert!(passes(issued) && !passes(not_issued) && passes(any));
+        fronts += any / 100_000_000 / 9;
+        ends.extend([issued, not_issued].map(|id| id / 10_000 % 100));
+    }
+    assert!(fronts > 300, "{fronts}");
+    for digits in [49, 50, 65, 66, 69, 70, 88, 89, 90, 92, 93, 94, 99] {
+        assert!(ends.contains(&digits), "{digits}");
+    }
 }
 
 /// Long files, with tables exactly full and one more.
