@@ -1,4 +1,5 @@
-/* The wage file library for C and C++: the walk over a wage file, the writing of T and F records, and the frames of the acknowledgement.
+/* The wage file library for C and C++: the walk over a wage file, the writing of T and F records, the building of A, E and S records and the reading of
+ * their fields, and the frames of the acknowledgement.
  *
  * It is proved in Rattle (docs/PROVED.md): every call below returns, touches nothing but what it is lent, and answers as written here, whatever
  * numbers and bytes it is lent. Link libcapi.a (x86-64 Linux), which `rt staticlib capi` writes; of the C library it needs memset.
@@ -26,13 +27,14 @@ typedef struct wage_employer {
     uint64_t cents; /* their wages */
 } wage_employer;
 
-/* Every call returns a number: 0 if all is well, else that of the refusal.
+/* Every call but wage_field_text and wage_field_first returns a number: 0 if all is well, else that of the refusal.
  *
  *   1 to 63   the file is refused: docs/REASONS.md has every number
  *   70        year and month are no last closed quarter
  *   71        a line or the end after acceptance; nothing changed
  *   72        the state is unfit: words that tell no walk, numbers that no walk has, or more in use than the tables lent hold; nothing changed
  *   80 to 83  wage_write_t, wage_write_f: below
+ *   84, 85    wage_build_a, wage_build_e, wage_build_s: below
  *   87, 88    wage_frames: below */
 enum {
     WAGE_FINE = 0,
@@ -43,16 +45,20 @@ enum {
     WAGE_NONE_TO_TOTAL = 81,
     WAGE_SUM_TOO_LARGE = 82,
     WAGE_SLICE_LENGTH = 83,
+    WAGE_BUILD_LENGTH = 84,
+    WAGE_VALUE_TOO_LONG = 85,
     WAGE_WALK_NOT_ENDED = 87,
     WAGE_BUFFER_TOO_SMALL = 88
 };
 
-/* Every call puts four words at the front of `answer`, as many of them as fit; the words behind them stay. A caller that wants none lends length 0. */
+/* Every call that is lent an `answer` puts four words at its front, as many of them as fit; the words behind them stay. A caller that wants none lends
+ * length 0. */
 enum {
     WAGE_ANSWER_NUMBER = 0, /* what the call returns */
     WAGE_ANSWER_LINE = 1,   /* from 1; 0 if the refusal is not of the file */
-    WAGE_ANSWER_COLUMN = 2, /* from 1; likewise */
-    WAGE_ANSWER_BYTES = 3,  /* wage_line: bytes taken; wage_frames: bytes written; T and F: 290; all others, and every refusal: 0 */
+    WAGE_ANSWER_COLUMN = 2, /* from 1; 0 if the refusal is neither of the file nor of a field */
+    WAGE_ANSWER_BYTES = 3,  /* wage_line: bytes taken; wage_frames: bytes written; a record written or built: 290; all others, and every refusal: 0 */
+    WAGE_ANSWER_VALUE = 3,  /* wage_field_number: the number */
     WAGE_ANSWER_WORDS = 4
 };
 
@@ -112,6 +118,102 @@ uint64_t wage_whole(uint64_t year, uint64_t month, const uint8_t *bytes, size_t 
 #define WAGE_RECORD_BYTES 290
 uint64_t wage_write_t(const uint64_t *state, size_t state_length, uint8_t *out, size_t out_length, uint64_t *answer, size_t answer_length);
 uint64_t wage_write_f(const uint64_t *state, size_t state_length, uint8_t *out, size_t out_length, uint64_t *answer, size_t answer_length);
+
+/* The fields of the records, counted from 0 in the order of their tables: places in `values`, and arguments of the calls that read a field. Behind each
+ * its columns; a text is named as one, all others are numbers. The fields without a name are the record's letter, the taxing entity code and blank
+ * space, which no caller gives. */
+enum {
+    WAGE_A_TAX_YEAR = 1,         /* 2-5 */
+    WAGE_A_FEIN = 2,             /* 6-14 */
+    WAGE_A_PERIOD = 4,           /* 19-20: 3, 6, 9 or 12 */
+    WAGE_A_NAME = 6,             /* 24-73, text */
+    WAGE_A_STREET = 7,           /* 74-113, text */
+    WAGE_A_CITY = 8,             /* 114-138, text */
+    WAGE_A_STATE = 9,            /* 139-140, text */
+    WAGE_A_ZIP = 11,             /* 154-158, text: 04332, K1A 0 */
+    WAGE_A_ZIP_EXTENSION = 12,   /* 159-163, text: -1061, B1, or empty */
+    WAGE_A_CONTACT = 13,         /* 164-193, text */
+    WAGE_A_PHONE = 14,           /* 194-203 */
+    WAGE_A_PHONE_EXTENSION = 15, /* 204-207, text, may be empty */
+    WAGE_A_FIELDS = 17
+};
+enum {
+    WAGE_E_TAX_YEAR = 1,           /* 2-5 */
+    WAGE_E_FEIN = 2,               /* 6-14 */
+    WAGE_E_NAME = 4,               /* 24-73, text */
+    WAGE_E_STREET = 5,             /* 74-113, text */
+    WAGE_E_CITY = 6,               /* 114-138, text */
+    WAGE_E_STATE = 7,              /* 139-140, text */
+    WAGE_E_ZIP_EXTENSION = 9,      /* 149-153, text: -1061, B1, or empty */
+    WAGE_E_ZIP = 10,               /* 154-158, text: 04332, K1A 0 */
+    WAGE_E_ACCOUNT = 14,           /* 173-182: the number, or WAGE_NO_ACCOUNT */
+    WAGE_E_AMENDED = 16,           /* 187-187: 0 or 1 */
+    WAGE_E_PERIOD = 17,            /* 188-189: 3, 6, 9 or 12 */
+    WAGE_E_S_FOLLOW = 18,          /* 190-190: 1 if S records follow, else 0 */
+    WAGE_E_FIFTEEN_EMPLOYEES = 19, /* 191-191: 0 or 1 in period 9, in another any digit */
+    WAGE_E_CONTACT = 21,           /* 201-230, text */
+    WAGE_E_EMAIL = 22,             /* 231-260, text */
+    WAGE_E_PHONE = 23,             /* 261-270 */
+    WAGE_E_PHONE_EXTENSION = 24,   /* 271-274, text, may be empty */
+    WAGE_E_FINAL = 26,             /* 282-282: 0 or 1 */
+    WAGE_E_CEASE_DATE = 27,        /* 283-290: MMDDYYYY, 0 unless final */
+    WAGE_E_FIELDS = 28
+};
+enum {
+    WAGE_S_IDENTITY = 1,   /* 2-10: 0 if applied for */
+    WAGE_S_LAST_NAME = 2,  /* 11-30, text */
+    WAGE_S_FIRST_NAME = 3, /* 31-42, text */
+    WAGE_S_PERIOD = 5,     /* 46-47: 3, 6, 9 or 12 */
+    WAGE_S_TAX_YEAR = 6,   /* 48-51 */
+    WAGE_S_WAGES = 8,      /* 64-77: cents */
+    WAGE_S_FEIN = 11,      /* 147-155 */
+    WAGE_S_FIELDS = 13
+};
+enum {
+    WAGE_T_COUNT = 1, /* 2-8 */
+    WAGE_T_FEIN = 3,  /* 13-21 */
+    WAGE_T_WAGES = 5, /* 27-40: cents */
+    WAGE_T_FIELDS = 7
+};
+enum {
+    WAGE_F_COUNT = 1,     /* 2-11 */
+    WAGE_F_EMPLOYERS = 2, /* 12-21 */
+    WAGE_F_WAGES = 5,     /* 41-55: cents */
+    WAGE_F_FIELDS = 7
+};
+
+/* The value of an account number that is left out: its ten columns are blank. */
+#define WAGE_NO_ACCOUNT ((uint64_t)-1)
+
+/* Builds an A, E or S record from unpadded values into `out`, 290 bytes without a line end, in capitals: texts left justified and filled with blanks,
+ * numbers right justified and filled with zeros.
+ *
+ * `values` has one entry for each field of the record: of a number the number; of a text how many bytes of `texts` it takes, where the texts stand one
+ * behind the other in the order of the fields; the entries of fields without a name are not looked at. An entry past the end is 0, a text ends where
+ * `texts` ends, and what is left over of either is ignored.
+ *
+ * In this order: 84 if `out` is not 290 bytes, column 0; then field by field, in the order of the columns: 85 if the value is longer than the field, at the
+ * field's first column (trailing blanks count); 3 at the first character that a file may not hold; then the field's own rules over the padded record, of
+ * docs/REASONS.md 32, 33, 35 to 38, 40, 44, 47, 48, 50, 51, 52 and 54, with their columns. If refused, `out` is untouched. The line is always 0. Rules that look at
+ * other records or at the last closed quarter are those of wage_line: what is built here may still be refused there. */
+uint64_t wage_build_a(const uint64_t *values, size_t values_length, const uint8_t *texts, size_t texts_length, uint8_t *out, size_t out_length,
+                      uint64_t *answer, size_t answer_length);
+uint64_t wage_build_e(const uint64_t *values, size_t values_length, const uint8_t *texts, size_t texts_length, uint8_t *out, size_t out_length,
+                      uint64_t *answer, size_t answer_length);
+uint64_t wage_build_s(const uint64_t *values, size_t values_length, const uint8_t *texts, size_t texts_length, uint8_t *out, size_t out_length,
+                      uint64_t *answer, size_t answer_length);
+
+/* Read a field of a line. `letter` is A, E, S, T or F, a capital, and decides by itself which record's fields are meant; `field` is one of the numbers
+ * above, or that of a field without a name. Of a record that was built the values come back, in capitals and without trailing blanks; an account number
+ * that was left out has a text of no characters.
+ *
+ * wage_field_number: the number in the field's columns, as ANSWER_VALUE, and 0. 30 where it is none, with the first column that holds no digit, those
+ * behind the line's end among them; at the first column of a field that has more than 19 columns; and at column 0 where there is no such field.
+ * wage_field_text: how many characters the field has, counted without trailing blanks and as far as the line goes; 0 where there is no such field.
+ * wage_field_first: the field's first column, so that its text begins at line[wage_field_first(letter, field) - 1]; 0 where there is no such field. */
+uint64_t wage_field_number(uint8_t letter, size_t field, const uint8_t *line, size_t line_length, uint64_t *answer, size_t answer_length);
+uint64_t wage_field_text(uint8_t letter, size_t field, const uint8_t *line, size_t line_length);
+uint64_t wage_field_first(uint8_t letter, size_t field);
 
 /* Writes the acknowledgement of a walk that has ended, by acceptance or by refusal, to the front of `out`; bytes behind it stay. It is lines of
  * hexadecimal, each with LF: 35 bytes for each employer and 35 more; 17 bytes for a refusal. The return value tells whether it was written, not whether

@@ -3,8 +3,8 @@
 
     tests/compare_source.py [--root DIR] [DOCUMENTS]
 
-DOCUMENTS is the folder that holds document 000 (its file name begins with 000_) and 01-scope.md; ../shared/documents from the
-repository's root if not given. DIR is the repository's root; the one that holds this file if not given.
+DOCUMENTS is the folder that holds document 000 (its file name begins with 000_), 01-scope.md and 02-change-requests.md;
+../shared/documents from the repository's root if not given. DIR is the repository's root; the one that holds this file if not given.
 
 The five tables and the codes are read from document 000. What each field is, its class, follows from the table's own words: type, rules
 and the field's name. The readings of document 01 (which location is read as two, how many fields, which reasons) are read from its sentences.
@@ -16,6 +16,8 @@ import re
 import sys
 
 RECORDS = "AESTF"
+# The requests of document 02 that have landed.
+LANDED = ("ii",)
 COUNTS = {"passed": 0, "failed": 0}
 
 
@@ -152,7 +154,13 @@ def paper_numbers(paper):
         span = re.fullmatch(r"(\d+) to (\d+)", cell.strip())
         listed = set(range(int(span.group(1)), int(span.group(2)) + 1)) if span else {int(n) for n in cell.split(",")}
         numbers |= listed & named if when.strip() == "as above" else listed
-    return sorted(numbers - {0})
+    return numbers - {0}
+
+
+def request_numbers(requests):
+    """The numbers that the requests landed give to new refusals: those above document 01's last for a field."""
+    landed = [part for name in LANDED for part in re.findall(r"^\*\*\(%s\) .*$" % name, requests, re.M)]
+    return {int(n) for part in landed for n in re.findall(r"(?<![\d,.^])\d\d(?!\d|,\d)", part) if int(n) > 63}
 
 
 # ---- the crates
@@ -297,9 +305,10 @@ def compare_codes(read, source, paper):
         same("%s, in specs" % name, wanted, found(r'\n%s = codesIn \(bytes "([^"]*)"\)' % name, specs, name).group(1).split(" "))
 
 
-def compare_reasons(read, paper):
+def compare_reasons(read, paper, requests):
     told, given = code_reasons(read("crates/reason/src/lib.rt"))
-    same("the numbers of the reasons are those of document 01", paper_numbers(paper), sorted(given.values()))
+    wanted = sorted(paper_numbers(paper) | request_numbers(requests))
+    same("the numbers of the reasons are those of document 01, and of the requests landed", wanted, sorted(given.values()))
     same("each reason's comment has its number", sorted(given.items()), sorted(told.items()))
     specs = re.findall(r"\nnumberOf (\w+) = (\d+)", read("crates/reason/specs/Numbers.antt"))
     same("the numbers in specs are those of the code", sorted(given.items()), sorted((name, int(n)) for name, n in specs))
@@ -337,13 +346,13 @@ def main():
     words.add_argument("--root", default=here)
     given = words.parse_args()
     folder = given.documents or os.path.join(given.root, "..", "shared", "documents")
-    source, paper = document(folder, "000_"), document(folder, "01-scope")
+    source, paper, requests = (document(folder, begins) for begins in ("000_", "01-scope", "02-change-requests"))
     fields, read = as_read(source, paper), reader(given.root)
     compare_source(source, paper, fields)
     compare("the list of fields", compare_fields, read, source, fields)
     compare("the map of columns", compare_map, read, fields)
     compare("the codes", compare_codes, read, source, paper)
-    compare("the reasons", compare_reasons, read, paper)
+    compare("the reasons", compare_reasons, read, paper, requests)
     print("%d passed, %d failed" % (COUNTS["passed"], COUNTS["failed"]))
     sys.exit(1 if COUNTS["failed"] else 0)
 

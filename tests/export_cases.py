@@ -21,6 +21,13 @@ QUARTER = "202606"
 # Files of the reference that go through the Rust crate.
 REFERENCE_FILES = 2000
 
+# What examples/c/write_file.c writes, by the letters of its records, and the frames of it.
+WRITTEN = [b"A", b"E", b"S", b"S", b"T", b"E", b"T", b"F"]
+WRITTEN_FRAMES = b"0100BC614E00000002000000000001E26C\n0129B92700000000000000000000000000\n000000000200000002000000000001E26C\n"
+# The classes of fields that are given as texts, and those that no caller gives.
+TEXTS = {"RequiredText", "OptionalText", "PersonName", "StateCode", "ZipCode", "ZipExtension"}
+CONSTANTS = {"RecordLetter", "EntityCode", "BlankSpace"}
+
 passed = 0
 failed = 0
 
@@ -71,20 +78,51 @@ def examples(acknowledge):
     print("%d examples through the C example" % len(names))
 
 
+def written_file(write_file, acknowledge):
+    """The file that the C example writes, A, E and S built and T and F written, is accepted."""
+    done = run(*write_file)
+    lines = done.stdout.split(b"\n")
+    check("examples/c/write_file.c: %r" % done, (done.returncode, [line[:1] for line in lines]) == (0, [*WRITTEN, b""]))
+    check("its lines have 290 characters, in capitals", all(len(line) == 290 and line == line.upper() for line in lines[:-1]))
+    with tempfile.NamedTemporaryFile() as file:
+        file.write(done.stdout)
+        file.flush()
+        done = run(*acknowledge, QUARTER, file.name)
+    check("it is accepted: %r" % done, (done.returncode, done.stdout) == (0, WRITTEN_FRAMES))
+    with open("/dev/full", "wb") as full:
+        done = subprocess.run(write_file, stdout=full, stderr=subprocess.PIPE)
+        check("a full device: %r" % done, done.returncode == 1)
+    print("a file of %d built and written records, accepted" % (len(lines) - 1))
+
+
+def fields_in_header(text):
+    """The header's fields are rows of the list of fields, by number and columns; a text is named as one."""
+    rows = read("crates", "layout", "specs", "Fields.antt").decode()
+    for letter in "AESTF":
+        table = re.findall(r"^ +row (\w+) (\d+) (\d+) ∷", re.search(r"^fieldsOf%s =\n(.*?)\[\]" % letter, rows, re.M | re.S).group(1), re.M)
+        named = re.findall(r"^ +WAGE_%s_(\w+) = (\d+), +/\* (\d+)-(\d+)(, text)?" % letter, text, re.M)
+        told = [("%s" % number, first, last, bool(words)) for _, number, first, last, words in named]
+        given = [("%d" % k, first, last, class_ in TEXTS) for k, (class_, first, last) in enumerate(table) if class_ not in CONSTANTS]
+        check("wage.h, fields of %s: %r, not %r" % (letter, told, given), told == given)
+        check("wage.h, their count", "WAGE_%s_FIELDS = %d\n" % (letter, len(table)) in text)
+
+
 def header():
     """The header in C and in C++, with the machine's own headers and with ours; it declares what the crate exports, and so does the Rust crate."""
     kit = os.path.dirname(os.path.dirname(os.path.realpath(run("sh", "-c", "command -v rt", text=True).stdout.strip())))
     clang = os.path.join(kit, "on", platform.machine(), "toolchain", "bin", "clang")
     strict = ("-Wall", "-Wextra", "-Wpedantic", "-Werror", "-fsyntax-only", "-I" + os.path.dirname(HEADER))
-    example, calls = os.path.join(EXAMPLES, "c", "acknowledge.c"), os.path.join(ROOT, "tests", "c", "calls.c")
+    examples_in_c = [os.path.join(EXAMPLES, "c", name) for name in ("acknowledge.c", "write_file.c")]
+    calls = os.path.join(ROOT, "tests", "c", "calls.c")
     own = ("--target=x86_64-unknown-linux-gnu", "-nostdinc", "-isystem", os.path.join(ROOT, "tools", "headers"))
-    for command in (("cc", "-std=c99", "-x", "c", HEADER), ("cc", "-std=c11", example), ("cc", "-std=gnu11", calls),
+    for command in (("cc", "-std=c99", "-x", "c", HEADER), *(("cc", "-std=c11", example) for example in examples_in_c), ("cc", "-std=gnu11", calls),
                     (clang, *own, "-std=c99", "-x", "c-header", HEADER), (clang, *own, "-std=c++98", "-x", "c++-header", HEADER)):
         done = run(command[0], *strict, *command[1:], text=True)
         check("%s: %s" % (" ".join(command), done.stderr), done.returncode == 0)
     source = "".join(read("crates", "capi", "src", name).decode() for name in sorted(os.listdir(os.path.join(ROOT, "crates", "capi", "src"))))
     exported = sorted(re.findall(r'#\[no_mangle\]\s+pub extern "C" fn (\w+)', source))
-    check("there are exports", len(exported) == 7)
+    check("there are exports", len(exported) == 13)
+    fields_in_header(read("include", "wage.h").decode())
     check("wage.h declares them", sorted(re.findall(r"^uint64_t (\w+)\(", read("include", "wage.h").decode(), re.M)) == exported)
     check("the Rust crate declares them", sorted(re.findall(r"pub fn (wage_\w+)\(", read("tests", "rust-exports", "src", "lib.rs").decode())) == exported)
 
@@ -142,6 +180,7 @@ def main():
         calls, acknowledge = c_programs.program("tests", "c", "calls.c"), c_programs.program("examples", "c", "acknowledge.c")
         stored_script(calls)
         examples(acknowledge)
+        written_file(c_programs.program("examples", "c", "write_file.c"), acknowledge)
         header()
         readme()
         rust()

@@ -9,6 +9,9 @@
 //     W  a whole file: as O; bytes
 //     R  a record written: T or F in 2, the length of the slice, at most 300, in 3-5. Full stops stand in the slice before
 //     F  the frames: entries lent 2-3, the length of the buffer, at most 500, in 4-6. Full stops stand in it before
+//     B  a record built: A, E or S in 2, the length of the slice, at most 300, in 3-5; then the values, at most 40, a comma before each; the texts, as
+//        bytes. Full stops stand in the slice before
+//     G  a field read: the record's letter 2, the field's number 3-22; the line, as bytes
 //     X  a line, lent a list of 65,540 entries, each 7, 8, 9: the state has 65,535 employers, or one or two more, by the digit in 2; bytes. What it
 //        leaves is not kept
 //     S  another state: the words 0 to 3 as `set_standing` reads them, the others from 20 on, as wide as `set_state` says
@@ -17,8 +20,8 @@
 //     K  what the calls to come are lent: so many words of state 2-3, at most 20, and of the answer 4, at most 6. At first it is 17 and 4
 //
 // The first four calls and X print a line: number, line, column and bytes; the state; the ids; the entries. Zeros at the end of a table are left
-// out. X prints no ids, and the entries from 65,534 on. R prints number, line and column, and the slice; F all four, and the buffer, LF as a slash. The
-// number is the one returned; a word of the answer that is not lent is told as 999.
+// out. X prints no ids, and the entries from 65,534 on. R and B print number, line and column, and the slice; F all four, and the buffer, LF as a slash;
+// G all four, and the length of the text and the first column. The number is the one returned; a word of the answer that is not lent is told as 999.
 //
 // What a call is lent stands right before memory that nobody may touch, and behind some that is looked at afterwards. Where a call leaves something that
 // no line would show, the program ends with a message.
@@ -30,7 +33,7 @@
 #include <sys/mman.h>
 #include <wage.h>
 
-enum { IDS = 40, ENTRIES = 12, LONG_LIST = 65540, LONG_LIST_TOLD_FROM = 65534, MOST_WORDS = 20, MOST_ANSWER = 6, MOST_SLICE = 300, MOST_BUFFER = 500 };
+enum { IDS = 40, ENTRIES = 12, LONG_LIST = 65540, LONG_LIST_TOLD_FROM = 65534, MOST_WORDS = 20, MOST_ANSWER = 6, MOST_SLICE = 300, MOST_BUFFER = 500, MOST_VALUES = 40 };
 
 _Static_assert(sizeof(wage_employer) == 24 && offsetof(wage_employer, count) == 8 && offsetof(wage_employer, cents) == 16, "as wage.h says");
 
@@ -147,6 +150,30 @@ static struct text behind(struct text s, size_t n)
 {
     n = lesser(n, s.length);
     return (struct text){s.at + n, s.length - n};
+}
+
+// The numbers from a place on, a comma before each, up to the stroke; how many there are.
+static size_t numbers_from(struct text s, size_t at, uint64_t *to, size_t most)
+{
+    size_t count = 0;
+    while (at < s.length && s.at[at] == ',' && count < most) {
+        size_t end = at + 1;
+        while (end < s.length && s.at[end] >= '0' && s.at[end] <= '9') {
+            end++;
+        }
+        to[count++] = number_in(s, at + 2, end);
+        at = end;
+    }
+    return count;
+}
+
+// The bytes behind the first stroke from a place on.
+static struct text behind_stroke(struct text s, size_t at)
+{
+    while (at < s.length && s.at[at] != '|') {
+        at++;
+    }
+    return behind(s, at + 1);
 }
 
 static uint32_t small(uint64_t v)
@@ -305,6 +332,16 @@ static void line_beyond(struct text s)
     putchar('\n');
 }
 
+// The answer's three numbers, and the slice of a record that was written or built.
+static void put_record(const uint8_t *slice, size_t length)
+{
+    if (answer_lent > WAGE_ANSWER_BYTES && answer[WAGE_ANSWER_BYTES] != (answer[0] == WAGE_FINE ? WAGE_RECORD_BYTES : 0)) {
+        stop("a record written has another length");
+    }
+    put_words(answer, WAGE_ANSWER_BYTES);
+    put_bytes(slice, length);
+}
+
 static void record_written(struct text s)
 {
     uint8_t slice[MOST_SLICE];
@@ -316,11 +353,43 @@ static void record_written(struct text s)
     take_answer((s.length > 1 && s.at[1] == 'T' ? wage_write_t : wage_write_f)(st, words_lent, out, length, an, answer_lent));
     take_back_same(STATE, state, words_lent * sizeof *state);
     take_back(OUT, slice, length);
-    if (answer_lent > WAGE_ANSWER_BYTES && answer[WAGE_ANSWER_BYTES] != (answer[0] == WAGE_FINE ? WAGE_RECORD_BYTES : 0)) {
-        stop("a record written has another length");
-    }
-    put_words(answer, WAGE_ANSWER_BYTES);
-    put_bytes(slice, length);
+    put_record(slice, length);
+}
+
+static void record_built(struct text s)
+{
+    uint8_t slice[MOST_SLICE];
+    uint64_t values[MOST_VALUES];
+    size_t length = lesser(number_in(s, 3, 5), MOST_SLICE), count = numbers_from(s, 5, values, MOST_VALUES);
+    struct text texts = behind_stroke(s, 5);
+    uint8_t letter = s.length > 1 ? s.at[1] : 0;
+    memset(slice, '.', length);
+    const uint64_t *lent = lend(STATE, values, count * sizeof *values);
+    const uint8_t *bytes = lend(BYTES, texts.at, texts.length);
+    uint8_t *out = lend(OUT, slice, length);
+    uint64_t *an = lend_answer();
+    take_answer((letter == 'A' ? wage_build_a : letter == 'E' ? wage_build_e : wage_build_s)(lent, count, bytes, texts.length, out, length, an, answer_lent));
+    take_back_same(STATE, values, count * sizeof *values);
+    take_back_same(BYTES, texts.at, texts.length);
+    take_back(OUT, slice, length);
+    put_record(slice, length);
+}
+
+static void field_read(struct text s)
+{
+    uint8_t letter = s.length > 1 ? s.at[1] : 0;
+    size_t field = number_in(s, 3, 22);
+    struct text given = behind(s, 23);
+    const uint8_t *line = lend(BYTES, given.at, given.length);
+    uint64_t *an = lend_answer();
+    take_answer(wage_field_number(letter, field, line, given.length, an, answer_lent));
+    uint64_t length = wage_field_text(letter, field, line, given.length);
+    take_back_same(BYTES, given.at, given.length);
+    put_words(answer, WAGE_ANSWER_WORDS);
+    putchar('|');
+    put(length);
+    put(wage_field_first(letter, field));
+    putchar('\n');
 }
 
 static void frames_written(struct text s)
@@ -426,6 +495,12 @@ static void command(struct text s)
         break;
     case 'F':
         frames_written(s);
+        break;
+    case 'B':
+        record_built(s);
+        break;
+    case 'G':
+        field_read(s);
         break;
     case 'S':
         set_state(s);

@@ -7,6 +7,7 @@ use native.Mathlib.Omega.{arith}
 use lib.ListN.{length, set}
 use lib.Seq.{take-nil}
 use borrow.Author.Tests.{ne-eqb, lt-ltb, le-ltb}
+use Rattle.laws.specs.Finding.{Reading}
 use Rattle.reason.specs.Numbers.{numberOf, notice, noticeOf}
 use Rattle.reason.specs.Once.{never-zero}
 use Rattle.reason.specs.declared.Refusal.{Refusal}
@@ -18,7 +19,7 @@ use Rattle.write.specs.declared.Wrote.{Wrote}
 use Rattle.write.specs.declared.Wrote.the-variants.{Refused}
 use Rattle.frames.specs.Frames.{Framing}
 use Rattle.frames.specs.declared.Framed.{Framed}
-use Rattle.capi.specs.Exports.{numbers, answered, Told, Called, isStill, stateAfter, called, Promised, placed, Filled, filled, writtenNumbers, filledRecord, framedNumbers, filledFraming}
+use Rattle.capi.specs.Exports.{numbers, answered, Told, Called, isStill, stateAfter, called, Promised, placed, Filled, filled, writtenNumbers, filledRecord, readNumbers, readField, framedNumbers, filledFraming}
 use Rattle.capi.specs.declared.Numbers.{Numbers}
 
 -- ---- the answer's words
@@ -82,3 +83,8 @@ module _ (number : ℕ) (out answer after : List ℕ) where
   pub has-framing : (framed : Framed) (f : Framing) → record { answer = framed; out = out } ≡ f → Told (framedNumbers framed) number answer after
       → fills ≡ filledFraming f answer
   has-framing framed f is-f told = has-filled (framedNumbers framed) told ∙ ap (λ (x : Framing). filledFraming x answer) is-f
+
+-- ---- the calls that read a field
+pub has-read : (reading : Reading) (n : Numbers) → n ≡ readNumbers reading → (number : ℕ) (answer after : List ℕ) → Told n number answer after
+    → record { number = number; answer = after } ≡ readField reading answer
+has-read reading n is-n number answer after told = rw (told .0, told .1, is-n)

@@ -4,17 +4,25 @@ use mathlib.Core.Bool.{Bool, false, _||_}
 use mathlib.Core.List.{List, [], _∷_, _++_}
 use mathlib.Core.Path.{_≡_}
 use lib.Dec.{eqb, ltb}
-use lib.ListN.{length, take, drop}
+use lib.ListN.{length, getD, take, drop}
 use Rattle.laws.specs.Choice.{if_then_else_}
+use Rattle.laws.specs.Finding.{Reading, value, refused}
 use Rattle.reason.specs.Numbers.{Notice, notice}
 use Rattle.calendar.specs.declared.Quarter.{Quarter}
 use Rattle.lines.specs.Lines.{firstLine}
+use Rattle.chars.specs.Characters.{capitals}
+use Rattle.number.specs.Numbers.{numberIn}
+use Rattle.layout.specs.Fields.{firstIn, lastIn, noRow}
+use Rattle.record.specs.Judge.{rowsFor}
+use Rattle.record.specs.Kinds.{kindOf}
 use Rattle.tables.specs.Room.{Tables}
 use Rattle.tables.specs.declared.Employer.{Employer}
 use Rattle.step.specs.Moves.{stays}
 use Rattle.step.specs.Steps.{Out, carried, openStep, lineStep, endStep}
 use Rattle.words.specs.Words.{wordCount, putWords, walkIn}
 use Rattle.write.specs.Writing.{Writing, totalWriting, finalWriting}
+use Rattle.build.specs.Building.{building}
+use Rattle.build.specs.Values.{textIn}
 use Rattle.walk.specs.Calls.{wholeFile}
 use Rattle.frames.specs.Frames.{Framing, framing}
 use Rattle.frames.specs.declared.Framed.{Framed}
@@ -22,7 +30,7 @@ use Rattle.frames.specs.declared.Framed.the-variants.{Written, Unfit, NotEnded,
 use Rattle.capi.specs.declared.Numbers.{Numbers}
 
 -- ---- the answer's words
--- Number, line and column as the paper gives them, and a count of bytes.
+-- Number, line and column as the paper gives them, and a count of bytes, or the number that a field holds.
 abbrev pub numbers : Notice → ℕ → Numbers
 numbers says bytes = record { number = says .number; line = says .line; column = says .column; bytes = bytes }
 
@@ -109,6 +117,41 @@ filledT words out answer = filledRecord (totalWriting (walkIn words) out) answer
 abbrev pub filledF : List ℕ → List ℕ → List ℕ → Filled
 filledF words out answer = filledRecord (finalWriting (walkIn words) out) answer
 
+-- ---- the calls that build a record
+-- The record that a letter names, from its values and texts.
+abbrev pub filledBuilt : ℕ → List ℕ → List ℕ → List ℕ → List ℕ → Filled
+filledBuilt letter values texts out answer = filledRecord (building letter values texts out) answer
+
+-- ---- the calls that read a field
+-- Field k, counted from 0, of the record that a letter names; there is none past the last, nor for another letter.
+abbrev pub fieldRow : ℕ → ℕ → List ℕ
+fieldRow letter k = getD (rowsFor (kindOf letter)) k noRow
+
+abbrev pub fieldFirst : ℕ → ℕ → ℕ
+fieldFirst letter k = firstIn (fieldRow letter k)
+
+-- "numbers, given and read as numbers"
+abbrev pub fieldReading : ℕ → ℕ → List ℕ → Reading
+fieldReading letter k line = numberIn (capitals line) (firstIn (fieldRow letter k)) (lastIn (fieldRow letter k))
+
+-- How many characters its text has, "without trailing blanks".
+abbrev pub fieldLength : ℕ → ℕ → List ℕ → ℕ
+fieldLength letter k line = length (textIn (capitals line) (firstIn (fieldRow letter k)) (lastIn (fieldRow letter k)))
+
+-- The number stands where other calls tell bytes. A refusal is of a column, and of no line.
+abbrev pub readNumbers : Reading → Numbers
+readNumbers (value v) = numbers (notice 0 0 0) v
+readNumbers (refused column number) = numbers (notice number 0 column) 0
+
+-- What a caller has then: the number of the refusal, 0 if there is none, and the answer's words.
+pub record FieldRead : Type 0 where
+  pub number : ℕ
+  pub answer : List ℕ
+
+abbrev pub readField : Reading → List ℕ → FieldRead
+readField reading answer = record { number = readNumbers reading .number; answer = answered (readNumbers reading) answer }
+
+-- ---- the call that writes frames
 -- The papers give no number to frames that are asked for before the walk has ended, nor to a buffer that is too small for them. 87 and 88 are free
 -- in them.
 abbrev pub framedNumbers : Framed → Numbers

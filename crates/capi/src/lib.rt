@@ -1,7 +1,9 @@
-// The library for integrators: the calls of the walk, the writing of T and F, and the frames, over numbers and slices. C sees a slice as its
-// pointer and its length. The caller keeps the state of a walk as words.
+// The library for integrators: the calls of the walk, the writing of T and F, the building of A, E and S and the reading of their fields, and the
+// frames, over numbers and slices. C sees a slice as its pointer and its length. The caller keeps the state of a walk as words.
+use build::read;
 use calendar::Quarter;
 use frames::Framed;
+use number::Number;
 use reason::Refusal;
 use step::Answer;
 use step::Reply;
@@ -10,13 +12,14 @@ use write::Wrote;
 ghost use mathlib.Core.Path.{_≡_};
 ghost use lib.ListN.{set};
 ghost use Rattle.reason.specs.Numbers.{notice, noticeOf};
+ghost use Rattle.number.specs.Numbers.{readingOf};
 ghost use Rattle.tables.specs.Room.{Tables, tables as tablesOf};
 ghost use Rattle.step.specs.Moves.{noticeIn, takenIn};
 ghost use Rattle.step.specs.Steps.{outOf};
 ghost use Rattle.write.specs.Writing.{noticeIn as noticeOn};
-ghost use Rattle.capi.specs.Exports.{numbers, Told, isStill, Promised, quarterOf, openThrough, lineThrough, endThrough, wholeThrough, writtenNumbers, filledT, filledF, framedNumbers, filledFrames};
+ghost use Rattle.capi.specs.Exports.{numbers, Told, isStill, Promised, quarterOf, openThrough, lineThrough, endThrough, wholeThrough, writtenNumbers, filledT, filledF, filledBuilt, fieldFirst, fieldReading, fieldLength, readNumbers, readField, framedNumbers, filledFrames};
 
-// What a call answers: the paper's number, line and column, and a count of bytes.
+// What a call answers: the paper's number, line and column, and a count of bytes, or the number that a field holds.
 struct Numbers {
     number: u64,
     line: u64,
@@ -95,6 +98,19 @@ fn wrote_numbers(wrote: Wrote) -> Numbers
     match wrote {
         Wrote::Record => fine(layout::RECORD as u64),
         Wrote::Refused(refusal) => refused(refusal),
+    }
+}
+
+fn read_numbers(read: Number) -> Numbers
+    ensures { λ r. ⌜ r ≡ readNumbers (readingOf read) ⌝ }
+{
+    match read {
+        Number::Value(v) => fine(v),
+        Number::Refused(column, reason) => refused(Refusal {
+            line: 0,
+            column,
+            reason,
+        }),
     }
 }
 
@@ -239,6 +255,81 @@ pub extern "C" fn wage_write_f(state: &[u64], out: &mut [u8], answer: &mut [u64]
     tell_numbers(wrote_numbers(wrote), answer)
 }
 
+// ---- the calls that build a record
+// A, the transmitter, from its values.
+#[no_mangle]
+pub extern "C" fn wage_build_a(
+    values: &[u64],
+    texts: &[u8],
+    out: &mut [u8],
+    answer: &mut [u64],
+) -> u64
+    ensures { λ r. ⌜ record { number = r; out = now (out .exit); answer = now (answer .exit) } ≡ filledBuilt 65 (now (values .entry)) (now (texts .entry)) (now (out .entry)) (now (answer .entry)) ⌝ }
+{
+    let wrote = build::build_a(values, texts, out);
+    tell_numbers(wrote_numbers(wrote), answer)
+}
+
+// E, an employer.
+#[no_mangle]
+pub extern "C" fn wage_build_e(
+    values: &[u64],
+    texts: &[u8],
+    out: &mut [u8],
+    answer: &mut [u64],
+) -> u64
+    ensures { λ r. ⌜ record { number = r; out = now (out .exit); answer = now (answer .exit) } ≡ filledBuilt 69 (now (values .entry)) (now (texts .entry)) (now (out .entry)) (now (answer .entry)) ⌝ }
+{
+    let wrote = build::build_e(values, texts, out);
+    tell_numbers(wrote_numbers(wrote), answer)
+}
+
+// S, an employee.
+#[no_mangle]
+pub extern "C" fn wage_build_s(
+    values: &[u64],
+    texts: &[u8],
+    out: &mut [u8],
+    answer: &mut [u64],
+) -> u64
+    ensures { λ r. ⌜ record { number = r; out = now (out .exit); answer = now (answer .exit) } ≡ filledBuilt 83 (now (values .entry)) (now (texts .entry)) (now (out .entry)) (now (answer .entry)) ⌝ }
+{
+    let wrote = build::build_s(values, texts, out);
+    tell_numbers(wrote_numbers(wrote), answer)
+}
+
+// ---- the calls that read a field
+// Field k, counted from 0, of the record that a letter names, as a number.
+#[no_mangle]
+pub extern "C" fn wage_field_number(
+    letter: u8,
+    field: usize,
+    line: &[u8],
+    answer: &mut [u64],
+) -> u64
+    ensures { λ r. ⌜ record { number = r; answer = now (answer .exit) } ≡ readField (fieldReading letter field (now (line .entry))) (now (answer .entry)) ⌝ }
+{
+    let number = read::field_number(letter, field, line);
+    tell_numbers(read_numbers(number), answer)
+}
+
+// How many characters it has as a text.
+#[no_mangle]
+pub extern "C" fn wage_field_text(letter: u8, field: usize, line: &[u8]) -> u64
+    ensures { λ r. ⌜ r ≡ fieldLength letter field (now (line .entry)) ⌝ }
+{
+    read::field_text(letter, field, line) as u64
+}
+
+// Its first column.
+#[no_mangle]
+pub extern "C" fn wage_field_first(letter: u8, field: usize) -> u64
+    ensures { λ r. ⌜ r ≡ fieldFirst letter field ⌝ }
+{
+    read::field_first(letter, field) as u64
+}
+
+// ---- the call that writes frames
 fn tell_framed(framed: Framed, answer: &mut [u64]) -> u64
     ensures { λ r. ⌜ Told (framedNumbers framed) r (now (answer .entry)) (now (answer .exit)) ⌝ }
 {

@@ -58,6 +58,27 @@ pub capital-of-digit : (c : ℕ) → isDigit c ≡ true → capitalOf c ≡ c
 unfolding capitalOf
 capital-of-digit c d = let r = digit-range c d in rw (lt-leb 97 c (omega arith))
 
+-- A character before the small letters stays what it is in capitals, and a line in capitals stays as it is.
+pub capital-below : (c : ℕ) → c < 97 → capitalOf c ≡ c
+unfolding capitalOf
+capital-below c h = rw (lt-leb 97 c h)
+
+pub capital-again : (c : ℕ) → capitalOf (capitalOf c) ≡ capitalOf c
+unfolding capitalOf
+capital-again c = by (leb 97 c && leb c 122) refl where
+  by : (small : Bool) → leb 97 c && leb c 122 ≡ small → capitalOf (if small then c - 32 else c) ≡ (if small then c - 32 else c)
+  by true e = let w = within 97 c 122 e in capital-below (c - 32) (omega arith)
+  by false e = rw e
+
+pub capitals-again : (line : List ℕ) → capitals (capitals line) ≡ capitals line
+unfolding capitals
+capitals-again [] = refl
+capitals-again (c ∷ line) = rw (capital-again c, capitals-again line)
+
+pub blank-is : isBlank 0x20 ≡ true
+unfolding isBlank
+blank-is = refl
+
 -- A letter of A to Z is read where it stands, or its small letter.
 module _ (c letter : ℕ) (low : 65 ≤ letter) (high : letter ≤ 90) where
   by-letter : (small here smaller : Bool) → leb 97 c && leb c 122 ≡ small → eqb c letter ≡ here → eqb c (letter + 32) ≡ smaller

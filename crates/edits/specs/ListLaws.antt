@@ -4,14 +4,16 @@ use mathlib.Core.List.{List, [], _∷_, _++_}
 use mathlib.Core.Path.{_≡_, refl, sym, ap, _∙_}
 use native.Mathlib.Nat.{zero-add, not-suc-le-zero, le-of-suc-le-suc}
 use native.Mathlib.Numerals.{add-one}
+use native.Mathlib.Omega.{arith}
 use lib.ListN.{length, getD}
 use Rattle.laws.specs.Finding.{Finding, fine, orElse, firstOf}
 use Rattle.laws.specs.First.{first-same, first-shift}
 use Rattle.field.specs.Classes.{classOf}
-use Rattle.edits.specs.Edit.{firstBroken}
-use Rattle.edits.specs.EditLaws.{first-append, AllFine, all-append}
+use Rattle.edits.specs.Edit.{Edit, firstBroken}
+use Rattle.edits.specs.EditLaws.{first-append, AllFine, all-fine, all-append}
 use Rattle.edits.specs.Fields.{Around, ruleOf, noRow, fieldAt, fieldsTest}
-use Rattle.edits.specs.Lists.{editsOf, fieldEdits}
+use Rattle.edits.specs.Lists.{editsOf, fieldEdits, contextOf, contextEdits}
+use Rattle.edits.specs.Own.{own}
 use Rattle.edits.specs.Parts.{Wide, field-parts}
 
 -- What the edits of field k find.
@@ -83,3 +85,22 @@ field-fine a line (row ∷ rows) [] all (suc k) h =
 field-fine a line (row ∷ rows) (which ∷ rules) all zero h = all-append (editsOf a line row which) (fieldEdits a line rows rules) all .0
 field-fine a line (row ∷ rows) (which ∷ rules) all (suc k) h =
     field-fine a line rows rules (all-append (editsOf a line row which) (fieldEdits a line rows rules) all .1) k (le-of-suc-le-suc h)
+
+-- Where no own edit of any field is broken, those with a context are left.
+own-passes : (own-edits context rest left : List Edit) → AllFine own-edits → firstBroken rest ≡ firstBroken left
+    → firstBroken ((own-edits ++ context) ++ rest) ≡ firstBroken (context ++ left)
+own-passes own-edits context rest left all e =
+    first-append (own-edits ++ context) rest
+    ∙ rw (first-append own-edits context, all-fine own-edits all, e) (sym (first-append context left))
+
+pub context-left : (a : Around) (line : List ℕ) (rows : List (List ℕ)) (rules : List ℕ)
+    → ((k : ℕ) → k < length rows → AllFine (own (a .marks) (a .code) (classOf (getD (getD rows k noRow) 0 0)) line (getD (getD rows k noRow) 1 0) (getD (getD rows k noRow) 2 0)))
+    → firstBroken (fieldEdits a line rows rules) ≡ firstBroken (contextEdits a line rows rules)
+unfolding fieldEdits contextEdits
+context-left a line [] rules own-fine = refl
+context-left a line (row ∷ rows) [] own-fine =
+    own-passes (own (a .marks) (a .code) (classOf (getD row 0 0)) line (getD row 1 0) (getD row 2 0)) (contextOf a line row 0) (fieldEdits a line rows [])
+    (contextEdits a line rows []) (own-fine 0 (omega arith)) (context-left a line rows [] (λ k h. own-fine (suc k) (omega arith)))
+context-left a line (row ∷ rows) (which ∷ rules) own-fine =
+    own-passes (own (a .marks) (a .code) (classOf (getD row 0 0)) line (getD row 1 0) (getD row 2 0)) (contextOf a line row which) (fieldEdits a line rows rules)
+    (contextEdits a line rows rules) (own-fine 0 (omega arith)) (context-left a line rows rules (λ k h. own-fine (suc k) (omega arith)))

@@ -19,3 +19,12 @@ unfoldable pub fieldEdits : Around → List ℕ → List (List ℕ) → List ℕ
 fieldEdits a line [] rules = []
 fieldEdits a line (row ∷ rows) [] = editsOf a line row 0 ++ fieldEdits a line rows []
 fieldEdits a line (row ∷ rows) (which ∷ rules) = editsOf a line row which ++ fieldEdits a line rows rules
+
+-- Of these, those that look at other records, at the quarter held or at the room that is left.
+abbrev pub contextOf : Around → List ℕ → List ℕ → ℕ → List Edit
+contextOf a line row which = withContext (ruleOf which) (a .marks) (a .here) (a .seen) line (getD row 1 0) (getD row 2 0)
+
+unfoldable pub contextEdits : Around → List ℕ → List (List ℕ) → List ℕ → List Edit
+contextEdits a line [] rules = []
+contextEdits a line (row ∷ rows) [] = contextOf a line row 0 ++ contextEdits a line rows []
+contextEdits a line (row ∷ rows) (which ∷ rules) = contextOf a line row which ++ contextEdits a line rows rules

@@ -58,7 +58,7 @@ module _ (least most : ℕ) where
 
     ruleset numbers = (none-within, more-within, inside, unless-within, every-within, choice-within, fine-within, period-within, flag-within, entity-within, state-within, zip-within, extension-within)
 
-    own-within : (marks : Marks) (code : List ℕ) (class : Class) (line : List ℕ) (first last : ℕ) → AllWithin (own marks code class line first last)
+    pub own-within : (marks : Marks) (code : List ℕ) (class : Class) (line : List ℕ) (first last : ℕ) → AllWithin (own marks code class line first last)
     own-within marks code Ignored line first last = search numbers
     own-within marks code RecordLetter line first last = search numbers
     own-within marks code BlankSpace line first last = search numbers

@@ -4,12 +4,14 @@ use mathlib.Core.Bool.{Bool, _&&_}
 use mathlib.Core.List.{List, [], _∷_, _++_}
 use mathlib.Core.Path.{_≡_, refl, sym, ap, _∙_}
 use native.Mathlib.Nat.{not-suc-le-zero, zero-add, add-assoc}
+use native.Mathlib.Numerals.{add-one}
 use native.Mathlib.Omega.{arith}
-use lib.Dec.{T, eqb}
+use lib.Dec.{T, eqb, leb}
 use lib.ListN.{length, getD, take, drop, List·getD-append}
 use lib.Seq.{getD-append-add}
-use borrow.Author.Tests.{eqb-true}
+use borrow.Author.Tests.{eqb-true, leb-true}
 use Rattle.laws.specs.Choice.{both-hold}
+use Rattle.laws.specs.Lists.{any-default}
 use Rattle.laws.specs.Table.{every, at}
 use Rattle.field.specs.declared.class.Class.the-variants.{RecordLetter, BlankSpace, Numeric, PersonName, EntityCode, TaxYear, EmployerFein, IdentityNumber, Period}
 use Rattle.layout.specs.Fields.{row, fieldsOfA, fieldsOfE, fieldsOfS, fieldsOfT, fieldsOfF, records, rowsOf, fields, noRow, starts, firstField}
@@ -57,12 +59,26 @@ all-in-place : T (every inPlace [] 0 records)
 unfolding inPlace firstField starts records fieldsOfA fieldsOfE fieldsOfS fieldsOfT fieldsOfF
 all-in-place = tt
 
+withinAll : ℕ → List (List ℕ) → Bool
+withinAll kind rows = leb (firstField (suc kind)) (length fields)
+
+all-within : T (every withinAll [] 0 records)
+unfolding withinAll firstField starts records fields fieldsOfA fieldsOfE fieldsOfS fieldsOfT fieldsOfF
+all-within = tt
+
 module _ (kind : ℕ) (h : kind < 5) where
   in-place : (firstField kind ≡ ahead records kind) × (firstField (suc kind) ≡ firstField kind + length (rowsOf kind))
   unfolding inPlace
   in-place =
       let both = both-hold _ _ (at inPlace [] records all-in-place kind (rw five-records h)) in
       (eqb-true _ _ (both .0), eqb-true _ _ (both .1))
+
+  -- Every field of the record stands in the list of all.
+  pub in-list : (k : ℕ) → k < length (rowsOf kind) → firstField kind + k < length fields
+  unfolding withinAll
+  in-list k l =
+      let inside = leb-true (firstField (suc kind)) (length fields) (at withinAll [] records all-within kind (rw five-records h)) in
+      omega (arith, in-place .1, inside)
 
   module _ (k : ℕ) (low : firstField kind ≤ k) (high : k < firstField (suc kind)) where
     -- A field of the record is a row of its table,
@@ -74,6 +90,37 @@ module _ (kind : ℕ) (h : kind < 5) where
     row-of-record =
         let here : ahead records kind + (k - firstField kind) ≡ k = omega (arith, in-place .0) in
         rw is-joined (ap (λ (n : ℕ). getD (joined records) n []) (sym here) ∙ joined-at records kind (k - firstField kind) in-record)
+
+-- How many fields a record has, and each of them in the list of all; past the five records there is none.
+pub fields-counted : (kind : ℕ) → kind < 5 → firstField (kind + 1) ≡ firstField kind + length (rowsOf kind)
+fields-counted kind h = rw add-one (in-place kind h .1)
+
+pub field-in-all : (kind : ℕ) → kind < 5 → (k : ℕ) → k < length (rowsOf kind) → getD fields (firstField kind + k) noRow ≡ getD (rowsOf kind) k noRow
+field-in-all kind h k l =
+    let all = firstField kind + k in
+    let back : all - firstField kind ≡ k = omega arith in
+    let next = in-place kind h .1 in
+    any-default fields all noRow [] (in-list kind h k l)
+    ∙ row-of-record kind h all (omega arith) (omega arith)
+    ∙ ap (λ (n : ℕ). getD (rowsOf kind) n []) back
+    ∙ any-default (rowsOf kind) k [] noRow l
+
+-- ---- the records one by one
+pub rows-in-order : (rowsOf 0 ≡ fieldsOfA) × (rowsOf 1 ≡ fieldsOfE) × (rowsOf 2 ≡ fieldsOfS) × (rowsOf 3 ≡ fieldsOfT) × (rowsOf 4 ≡ fieldsOfF) × (rowsOf 5 ≡ [])
+unfolding records
+rows-in-order = (refl, refl, refl, refl, refl, refl)
+
+-- Each begins with its letter.
+abbrev pub LetterFirst : List (List ℕ) → Type 0
+LetterFirst rows = (0 < length rows) × (getD rows 0 noRow ≡ row RecordLetter 1 1)
+
+pub letters-first : LetterFirst fieldsOfA × LetterFirst fieldsOfE × LetterFirst fieldsOfS × LetterFirst fieldsOfT × LetterFirst fieldsOfF
+unfolding fieldsOfA fieldsOfE fieldsOfS fieldsOfT fieldsOfF
+letters-first = ((omega arith, refl), (omega arith, refl), (omega arith, refl), (omega arith, refl), (omega arith, refl))
+
+pub none-behind : (firstField 5 ≡ 72) × (firstField 6 ≡ 72)
+unfolding firstField starts
+none-behind = (refl, refl)
 
 -- ---- each record's part of the list
 pub part-of-A : take 17 (drop 0 fields) ≡ fieldsOfA

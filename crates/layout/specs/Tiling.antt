@@ -30,6 +30,10 @@ unfolding tilesAll
 rows-tile kind h = at tilesAll [] records all-tile kind (rw five-records h)
 
 -- ---- rows that tile
+pub tiles-none : (from : ℕ) → tiles from [] ≡ true → from ≡ 291
+unfolding tiles
+tiles-none from t = eqb-true from 291 t
+
 pub tiles-first : (from : ℕ) (row : List ℕ) (rows : List (List ℕ)) → tiles from (row ∷ rows) ≡ true
     → (firstIn row ≡ from) × (from ≤ lastIn row) × (tiles (lastIn row + 1) rows ≡ true)
 unfolding tiles
@@ -40,7 +44,7 @@ tiles-first from row rows t =
 
 tiles-end : (from : ℕ) (rows : List (List ℕ)) → tiles from rows ≡ true → from ≤ 291
 unfolding tiles
-tiles-end from [] t = omega (arith, eqb-true from 291 t)
+tiles-end from [] t = omega (arith, tiles-none from t)
 tiles-end from (row ∷ rows) t =
     let f = tiles-first from row rows t in
     omega (arith, tiles-end (lastIn row + 1) rows (f .2))

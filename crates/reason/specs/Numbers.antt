@@ -9,7 +9,7 @@ use Rattle.reason.specs.declared.Edit.{Edit}
 use Rattle.reason.specs.declared.Edit.the-variants.{Passed, Broken}
 use Rattle.reason.specs.declared.Reason.{Reason}
 use Rattle.reason.specs.declared.Refusal.{Refusal}
-use Rattle.reason.specs.declared.Reason.the-variants.{LineLength, NoLineEnd, BadCharacter, UnknownLetter, EndsBeforeA, EndsAfterA, EndsWithEOpen, EndsWithoutF, BeforeA, SecondA, SWithoutE, TWithoutE, FWithoutE, EWhileEOpen, SUnderZeroE, FWhileEOpen, SecondT, SecondF, BehindF, NotDigit, NotBlank, TextMissing, TextIndented, NotEntityCode, UnknownState, BadZip, BadZipExtension, YearTooEarly, YearNotClosed, BadPeriod, PeriodNotClosed, YearNotOfA, PeriodNotOfA, FeinPrefix, FeinRepeated, FeinNotOfE, BadFlag, NoDate, DateOutsideQuarter, DateNotFinal, DateMissing, IdentityPrefix, IdentityRepeated, BadNameCharacter, CountNotOfS, NoneUnderE, WagesNotOfS, FileCountNotOfS, FileCountNotOfE, FileWagesNotOfS, TooManyS, IdTableFull, EmployerListFull, BadQuarter, WalkEnded, StateUnfit, NotToBeWritten, NoneToTotal, SumTooLarge, SliceLength}
+use Rattle.reason.specs.declared.Reason.the-variants.{LineLength, NoLineEnd, BadCharacter, UnknownLetter, EndsBeforeA, EndsAfterA, EndsWithEOpen, EndsWithoutF, BeforeA, SecondA, SWithoutE, TWithoutE, FWithoutE, EWhileEOpen, SUnderZeroE, FWhileEOpen, SecondT, SecondF, BehindF, NotDigit, NotBlank, TextMissing, TextIndented, NotEntityCode, UnknownState, BadZip, BadZipExtension, YearTooEarly, YearNotClosed, BadPeriod, PeriodNotClosed, YearNotOfA, PeriodNotOfA, FeinPrefix, FeinRepeated, FeinNotOfE, BadFlag, NoDate, DateOutsideQuarter, DateNotFinal, DateMissing, IdentityPrefix, IdentityRepeated, BadNameCharacter, CountNotOfS, NoneUnderE, WagesNotOfS, FileCountNotOfS, FileCountNotOfE, FileWagesNotOfS, TooManyS, IdTableFull, EmployerListFull, BadQuarter, WalkEnded, StateUnfit, NotToBeWritten, NoneToTotal, SumTooLarge, SliceLength, BuildLength, ValueTooLong}
 
 abbrev pub numberOf : Reason → ℕ
 numberOf LineLength = 1
@@ -72,6 +72,8 @@ numberOf NotToBeWritten = 80
 numberOf NoneToTotal = 81
 numberOf SumTooLarge = 82
 numberOf SliceLength = 83
+numberOf BuildLength = 84
+numberOf ValueTooLong = 85
 
 -- Every reason.
 abbrev pub reasons : List Reason
@@ -81,7 +83,7 @@ reasons =
     NotEntityCode ∷ UnknownState ∷ BadZip ∷ BadZipExtension ∷ YearTooEarly ∷ YearNotClosed ∷ BadPeriod ∷ PeriodNotClosed ∷ YearNotOfA ∷ PeriodNotOfA ∷
     FeinPrefix ∷ FeinRepeated ∷ FeinNotOfE ∷ BadFlag ∷ NoDate ∷ DateOutsideQuarter ∷ DateNotFinal ∷ DateMissing ∷ IdentityPrefix ∷ IdentityRepeated ∷
     BadNameCharacter ∷ CountNotOfS ∷ NoneUnderE ∷ WagesNotOfS ∷ FileCountNotOfS ∷ FileCountNotOfE ∷ FileWagesNotOfS ∷ TooManyS ∷ IdTableFull ∷
-    EmployerListFull ∷ BadQuarter ∷ WalkEnded ∷ StateUnfit ∷ NotToBeWritten ∷ NoneToTotal ∷ SumTooLarge ∷ SliceLength ∷ []
+    EmployerListFull ∷ BadQuarter ∷ WalkEnded ∷ StateUnfit ∷ NotToBeWritten ∷ NoneToTotal ∷ SumTooLarge ∷ SliceLength ∷ BuildLength ∷ ValueTooLong ∷ []
 
 -- The first of them that has a number; where none has it, the reason of 72.
 unfoldable pub havingNumber : ℕ → List Reason → Reason

@@ -14,15 +14,15 @@ use Rattle.reason.specs.declared.Edit.{Edit}
 use Rattle.reason.specs.declared.Edit.the-variants.{Passed, Broken}
 use Rattle.reason.specs.declared.Reason.{Reason}
 use Rattle.reason.specs.declared.Refusal.{Refusal}
-use Rattle.reason.specs.declared.Reason.the-variants.{LineLength, NoLineEnd, BadCharacter, UnknownLetter, EndsBeforeA, EndsAfterA, EndsWithEOpen, EndsWithoutF, BeforeA, SecondA, SWithoutE, TWithoutE, FWithoutE, EWhileEOpen, SUnderZeroE, FWhileEOpen, SecondT, SecondF, BehindF, NotDigit, NotBlank, TextMissing, TextIndented, NotEntityCode, UnknownState, BadZip, BadZipExtension, YearTooEarly, YearNotClosed, BadPeriod, PeriodNotClosed, YearNotOfA, PeriodNotOfA, FeinPrefix, FeinRepeated, FeinNotOfE, BadFlag, NoDate, DateOutsideQuarter, DateNotFinal, DateMissing, IdentityPrefix, IdentityRepeated, BadNameCharacter, CountNotOfS, NoneUnderE, WagesNotOfS, FileCountNotOfS, FileCountNotOfE, FileWagesNotOfS, TooManyS, IdTableFull, EmployerListFull, BadQuarter, WalkEnded, StateUnfit, NotToBeWritten, NoneToTotal, SumTooLarge, SliceLength}
+use Rattle.reason.specs.declared.Reason.the-variants.{LineLength, NoLineEnd, BadCharacter, UnknownLetter, EndsBeforeA, EndsAfterA, EndsWithEOpen, EndsWithoutF, BeforeA, SecondA, SWithoutE, TWithoutE, FWithoutE, EWhileEOpen, SUnderZeroE, FWhileEOpen, SecondT, SecondF, BehindF, NotDigit, NotBlank, TextMissing, TextIndented, NotEntityCode, UnknownState, BadZip, BadZipExtension, YearTooEarly, YearNotClosed, BadPeriod, PeriodNotClosed, YearNotOfA, PeriodNotOfA, FeinPrefix, FeinRepeated, FeinNotOfE, BadFlag, NoDate, DateOutsideQuarter, DateNotFinal, DateMissing, IdentityPrefix, IdentityRepeated, BadNameCharacter, CountNotOfS, NoneUnderE, WagesNotOfS, FileCountNotOfS, FileCountNotOfE, FileWagesNotOfS, TooManyS, IdTableFull, EmployerListFull, BadQuarter, WalkEnded, StateUnfit, NotToBeWritten, NoneToTotal, SumTooLarge, SliceLength, BuildLength, ValueTooLong}
 
--- "1 to 8, 10 to 20, 30 to 63, 70 to 72, 80 to 83": count numbers from first on.
+-- "1 to 8, 10 to 20, 30 to 63, 70 to 72, 80 to 85": count numbers from first on.
 abbrev from : ℕ → ℕ → List ℕ
 from first zero = []
 from first (suc count) = first ∷ from (suc first) count
 
 unfoldable pub listed : List ℕ
-listed = from 1 8 ++ from 10 11 ++ from 30 34 ++ from 70 3 ++ from 80 4
+listed = from 1 8 ++ from 10 11 ++ from 30 34 ++ from 70 3 ++ from 80 6
 
 -- The reason is found again from its number.
 pub found-again : (reason : Reason) → reasonOf (numberOf reason) ≡ reason
@@ -87,6 +87,8 @@ found-again NotToBeWritten = refl
 found-again NoneToTotal = refl
 found-again SumTooLarge = refl
 found-again SliceLength = refl
+found-again BuildLength = refl
+found-again ValueTooLong = refl
 
 -- Two reasons of one number are one reason.
 pub same-number : (a b : Reason) → numberOf a ≡ numberOf b → a ≡ b

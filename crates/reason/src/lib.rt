@@ -125,6 +125,10 @@ pub enum Reason {
     SumTooLarge,
     // 83: The slice is not of the record's length.
     SliceLength,
+    // 84: The slice to build a record in is not of the record's length.
+    BuildLength,
+    // 85: A value too long for its field.
+    ValueTooLong,
 }
 
 // A refusal: a place together with the reason. Line and column are counted from 1.
@@ -205,6 +209,8 @@ pub fn number_of(reason: Reason) -> u8
         Reason::NoneToTotal => 81,
         Reason::SumTooLarge => 82,
         Reason::SliceLength => 83,
+        Reason::BuildLength => 84,
+        Reason::ValueTooLong => 85,
     }
 }
 
@@ -273,6 +279,8 @@ pub fn reason_of(number: u64) -> Reason
         81 => Reason::NoneToTotal,
         82 => Reason::SumTooLarge,
         83 => Reason::SliceLength,
+        84 => Reason::BuildLength,
+        85 => Reason::ValueTooLong,
         _ => Reason::StateUnfit,
     }
 }

@@ -33,7 +33,7 @@ abbrev pub Named : Kind → Type 0
 Named kind = (65 ≤ letterOf kind) × (letterOf kind ≤ 90)
 
 -- A letter that names a record is the record's.
-letter-again : (letter : ℕ) → Named (kindOf letter) → letter ≡ letterOf (kindOf letter)
+pub letter-again : (letter : ℕ) → Named (kindOf letter) → letter ≡ letterOf (kindOf letter)
 unfolding kindOf
 letter-again letter = at (eqb letter 65) (eqb letter 69) (eqb letter 83) (eqb letter 84) (eqb letter 70) refl refl refl refl refl where
   by : Bool → Bool → Bool → Bool → Bool → Kind
@@ -47,6 +47,14 @@ letter-again letter = at (eqb letter 65) (eqb letter 69) (eqb letter 83) (eqb le
   at false false false true f _ _ _ p _ named = eqb-true letter 84 p
   at false false false false true _ _ _ _ p named = eqb-true letter 70 p
   at false false false false false _ _ _ _ _ named = absurd (omega arith)
+
+pub kind-of-A : kindOf 65 ≡ Transmitter
+unfolding kindOf
+kind-of-A = refl
+
+pub kind-of-E : kindOf 69 ≡ Employer
+unfolding kindOf
+kind-of-E = refl
 
 pub kind-of-S : kindOf 83 ≡ Employee
 unfolding kindOf

@@ -1,13 +1,15 @@
 -- The laws of text written into a line: how a loop writes it, what then stands in its columns, and that the others stay as they were.
 use Prim.Native.Nat.{ℕ, zero, suc, _+_, _-_, _<_, _≤_}
-use mathlib.Core.Path.{_≡_, refl, sym, _∙_}
+use mathlib.Core.Path.{_≡_, refl, sym, ap, _∙_}
 use mathlib.Core.List.{List, [], _∷_, _++_, append-nil}
 use mathlib.Core.Logic.{_⊎_, inl, inr}
 use native.Mathlib.Nat.{add-zero, not-suc-le-zero}
 use native.Mathlib.Numerals.{add-one}
 use native.Mathlib.Omega.{arith}
-use lib.ListN.{length, getD, set, drop, length-set, length-replicate, replicate-append-replicate, drop-of-length-le}
-use lib.Seq.{drop-cons, drop-length, append-snoc, set-at, set-out, getD-set-same, getD-set-other, sets, length-sets}
+use lib.ListN.{length, getD, set, take, drop, length-set, length-replicate, replicate-append-replicate, drop-of-length-le}
+use lib.Seq.{drop-cons, drop-length, take-suc, take-length, length-take-le, append-snoc, getD-at, set-at, sets-eq, set-out, getD-set-same, getD-set-other, sets, length-sets}
+use Rattle.chars.specs.Characters.{capitalOf, capitals}
+use Rattle.chars.specs.CharacterLaws.{capital-at, capitals-length}
 use Rattle.text.specs.Put.{blanks, putText}
 
 -- ---- a blank line, i columns done
@@ -22,6 +24,28 @@ blank-more line i h =
 
 pub blank-done : (line : List ℕ) (i : ℕ) → length line ≡ i → blankTo line i ≡ blanks (length line)
 blank-done line i e = rw (← e, drop-length, append-nil)
+
+-- ---- a line in capitals, i columns done
+module _ (line : List ℕ) (i : ℕ) where
+  abbrev pub capitalTo : List ℕ
+  capitalTo = take i (capitals line) ++ drop i line
+
+  -- The character at place i is read as it was read before.
+  same-there : i < length line → getD (capitals capitalTo) i 0 ≡ getD (capitals line) i 0
+  same-there h =
+      let before : length (take i (capitals line)) ≡ i = length-take-le i (capitals line) (omega (arith, capitals-length line)) in
+      let here : getD capitalTo i 0 ≡ getD line i 0 = rw (drop-cons line i 0 h) (getD-at (take i (capitals line)) (getD line i 0) (drop (suc i) line) 0 i before) in
+      capital-at capitalTo i ∙ ap capitalOf here ∙ sym (capital-at line i)
+
+pub capital-more : (line : List ℕ) (i c : ℕ) → i < length line → c ≡ getD (capitals (capitalTo line i)) i 0 → set (capitalTo line i) i c ≡ capitalTo line (i + 1)
+capital-more line i c h e =
+    let long : i < length (capitals line) = omega (arith, capitals-length line) in
+    let before : length (take i (capitals line)) ≡ i = length-take-le i (capitals line) (omega arith) in
+    rw (e ∙ same-there line i h, add-one i, take-suc (capitals line) i 0 long, append-snoc, drop-cons line i 0 h)
+    (set-at (take i (capitals line)) (getD line i 0) (drop (suc i) line) (getD (capitals line) i 0) i before)
+
+pub capital-done : (line : List ℕ) (i : ℕ) → length line ≡ i → capitalTo line i ≡ capitals line
+capital-done line i e = rw (← e, drop-length, append-nil) (rw (← capitals-length line) (take-length (capitals line)))
 
 -- Behind the line's end nothing is written.
 none-past : (text line : List ℕ) (at : ℕ) → length line ≤ at → sets line at text ≡ line
@@ -38,6 +62,13 @@ module _ (line text : List ℕ) (at i : ℕ) where
 
   pub text-more : i < length text → sets line at (drop i text) ≡ sets (set line at (getD text i 0)) (at + 1) (drop (i + 1) text)
   text-more h = rw (drop-cons text i 0 h, add-one, add-one)
+
+-- A text that is as long as the line takes its place.
+pub put-all : (line text : List ℕ) → length text ≡ length line → putText line 1 text ≡ text
+unfolding putText
+put-all line text e =
+    let room : 0 + length text ≡ length line = omega arith in
+    sets-eq text line 0 (omega arith) ∙ rw (room, drop-length) (append-nil text)
 
 -- ---- the columns
 sets-elsewhere : (text line : List ℕ) (at j : ℕ) → (j < at) ⊎ (at + length text ≤ j) → getD (sets line at text) j 0 ≡ getD line j 0

@@ -16,8 +16,9 @@ use Rattle.laws.specs.Numbered.{Between, Within, fine-within, broken-within}
 use Rattle.codes.specs.declared.Region.{Region}
 use Rattle.codes.specs.declared.Region.the-variants.{State, Province, Unknown}
 use Rattle.chars.specs.Agree.{Agree, agree-from}
-use Rattle.chars.specs.Columns.{unless}
+use Rattle.chars.specs.Columns.{everyColumn, isFine, unless}
 use Rattle.chars.specs.ColumnLaws.{unless-within}
+use Rattle.chars.specs.declared.columns.Allowed.the-variants.{Blanks}
 use Rattle.text.specs.Address.{stateTest, zipTest, extensionTest}
 use Rattle.text.specs.Text.{allBlank, isIndented, textTest, requiredText, optionalText, isAsked, readsAs, hasPattern, entityTest}
 
@@ -90,6 +91,11 @@ module _ (line : List ℕ) (first : ℕ) (pattern : List ℕ) (fixed : Fixed pat
   pub columns-pattern : ((k : ℕ) → k < length pattern → getD line (first - 1 + k) 0 ≡ getD pattern k 0) → hasPattern line first pattern ≡ true
   unfolding hasPattern
   columns-pattern same = fixed-reads pattern (drop (first - 1) line) fixed (λ k h. getD-drop (first - 1) line k 0 ∙ same k h)
+
+-- ---- a field of blanks
+pub all-blank-says : (line : List ℕ) (first last : ℕ) → allBlank line first last ≡ isFine (everyColumn Blanks line first last)
+unfolding allBlank
+all-blank-says line first last = refl
 
 -- ---- required and optional text, edit by edit
 required-tests : (blank indented : Bool) (first : ℕ)

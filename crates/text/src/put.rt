@@ -1,6 +1,7 @@
 // Text written into a line.
 ghost use mathlib.Core.Path.{_≡_};
 ghost use lib.ListN.{length};
+ghost use Rattle.chars.specs.Characters.{capitals};
 ghost use Rattle.text.specs.Put.{blanks, putText};
 
 // Every column of the line blank.
@@ -26,6 +27,18 @@ pub fn put_text(line: &mut [u8], first: u16, text: &[u8])
         }
         line[at] = text[i];
         at += 1;
+        i += 1;
+    }
+}
+
+// Every character of the line as it is read.
+pub fn in_capitals(line: &mut [u8])
+    ensures { λ _. ⌜ now (line .exit) ≡ capitals (now (line .entry)) ⌝ }
+{
+    let mut i = 0;
+    while i < line.len() {
+        let c = chars::char_at(line, i);
+        line[i] = c;
         i += 1;
     }
 }

@@ -93,7 +93,7 @@ plain-at t all k h =
     let both = both-hold (leb 0x20 (getD t k 0)) (ltb (getD t k 0) 97) (at isPlain 0 t all k h) in
     (leb-true 0x20 (getD t k 0) (both .0), ltb-true (getD t k 0) 97 (both .1))
 
-put-keeps : (part : Part) (line : List ℕ) → length (put part line) ≡ length line
+pub put-keeps : (part : Part) (line : List ℕ) → length (put part line) ≡ length line
 put-keeps (text first t) line = put-text-length line first t
 put-keeps (number first last v) line = put-number-length line first last v
 put-keeps (blank first last) line = refl
@@ -180,6 +180,15 @@ tiles-end from (part ∷ parts) t =
     let p = tiled from part parts t in
     omega (arith, p .forward, tiles-end (end part) parts (p .rest))
 
+-- One part after the other.
+pub put-none : (line : List ℕ) → putAll [] line ≡ line
+unfolding putAll
+put-none line = refl
+
+pub put-first : (part : Part) (parts : List Part) (line : List ℕ) → putAll (part ∷ parts) line ≡ putAll parts (put part line)
+unfolding putAll
+put-first part parts line = refl
+
 -- Parts that are put in from a place on leave what stands before it.
 puts-before : (parts : List Part) (from : ℕ) → T (tiles from parts) → (line : List ℕ) (k : ℕ) → k < from → getD (putAll parts line) k 0 ≡ getD line k 0
 unfolding putAll
@@ -189,7 +198,7 @@ puts-before (part ∷ parts) from t line k h =
     puts-before parts (end part) (p .rest) (put part line) k (omega (arith, p .forward))
     ∙ put-elsewhere part (p .is-sound) line k (inl (omega (arith, p .here)))
 
-puts-keep : (parts : List Part) (line : List ℕ) → length (putAll parts line) ≡ length line
+pub puts-keep : (parts : List Part) (line : List ℕ) → length (putAll parts line) ≡ length line
 unfolding putAll
 puts-keep [] line = refl
 puts-keep (part ∷ parts) line = puts-keep parts (put part line) ∙ put-keeps part line

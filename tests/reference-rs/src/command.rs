@@ -17,6 +17,9 @@
 //!   by the digit in 2; bytes
 //! - `R`, a record written: `T` or `F` in 2, the length of the slice lent 3-5, at most 300
 //! - `F`, the frames: entries lent 2-3, the length of the buffer lent 4-6, at most 500
+//! - `B`, a record built: `A`, `E` or `S` in 2, the length of the slice lent 3-5, at most 300; then
+//!   the values, at most 40, a comma before each; then the texts, at most 600 bytes, behind a stroke
+//! - `G`, a field read: the record's letter 2, the field's number 3-22; the line, as bytes
 //! - `N`, another number in one word of the state: its place 2-3, the number 4-23; a place behind
 //!   the words alters nothing
 //! - `K`, what the calls to come are lent: words of state 2-3, at most 20, and of the answer 4, at
@@ -25,6 +28,7 @@
 //! Here a command is written by the widths of its numbers and read by their columns, so that each
 //! checks the other.
 
+use crate::build::Built;
 use crate::calendar::Quarter;
 use crate::edits::{Phase, Refusal};
 use crate::meaning::{Entry, Room};
@@ -63,6 +67,17 @@ pub enum Command {
         entries: usize,
         length: usize,
     },
+    Build {
+        record: Built,
+        length: usize,
+        values: Vec<u64>,
+        texts: Vec<u8>,
+    },
+    Field {
+        letter: u8,
+        field: u64,
+        line: Vec<u8>,
+    },
     Word {
         at: usize,
         number: u64,
@@ -92,8 +107,12 @@ impl Lent {
 /// The longest buffer that the program can lend to a call for frames.
 pub const LONGEST_BUFFER: usize = 500;
 
-/// The longest slice that the program can lend to a writing call.
+/// The longest slice that the program can lend to a call that writes or builds a record.
 pub const LONGEST_SLICE: usize = 300;
+
+/// The most values and bytes of texts that it can lend to a building call.
+pub const MOST_VALUES: usize = 40;
+pub const MOST_TEXTS: usize = 600;
 
 /// Another id and another entry.
 #[derive(Clone, Copy, Debug, PartialEq, Eq)]
@@ -202,6 +221,24 @@ impl Text {
         self.number(entries as u64, 2).number(length as u64, 3);
     }
 
+    fn building(&mut self, record: Built, length: usize, values: &[u64], texts: &[u8]) {
+        assert!(
+            length <= LONGEST_SLICE && values.len() <= MOST_VALUES && texts.len() <= MOST_TEXTS
+        );
+        self.0.push(record.letter());
+        self.number(length as u64, 3);
+        for value in values {
+            self.0.extend(format!(",{value}").into_bytes());
+        }
+        self.bytes(texts);
+    }
+
+    fn field(&mut self, letter: u8, field: u64, line: &[u8]) {
+        assert_ne!(letter, b'#', "no byte ends the command");
+        self.0.push(letter);
+        self.number(field, 20).bytes(line);
+    }
+
     fn lending(&mut self, lent: Lent) {
         assert!(lent.words <= Lent::MOST.words && lent.answer <= Lent::MOST.answer);
         self.number(lent.words as u64, 2)
@@ -225,6 +262,18 @@ impl Command {
             && (refusal.number == 0 || NUMBERS.contains(&refusal.number))
     }
 
+    /// Whether it is a call of the walk.
+    pub fn walks(&self) -> bool {
+        matches!(
+            self,
+            Command::Open { .. }
+                | Command::Line { .. }
+                | Command::End { .. }
+                | Command::Whole { .. }
+                | Command::Beyond { .. }
+        )
+    }
+
     fn letter(&self) -> u8 {
         match self {
             Command::Open { .. } => b'O',
@@ -236,6 +285,8 @@ impl Command {
             Command::Beyond { .. } => b'X',
             Command::Write { .. } => b'R',
             Command::Frames { .. } => b'F',
+            Command::Build { .. } => b'B',
+            Command::Field { .. } => b'G',
             Command::Word { .. } => b'N',
             Command::Lend(_) => b'K',
         }
@@ -254,6 +305,19 @@ impl Command {
             Command::Beyond { more, bytes } => text.number(*more, 1).bytes(bytes),
             Command::Write { record, length } => text.writing(*record, *length),
             Command::Frames { entries, length } => text.framing(*entries, *length),
+            Command::Build {
+                record,
+                length,
+                values,
+                texts,
+            } => {
+                text.building(*record, *length, values, texts);
+            }
+            Command::Field {
+                letter,
+                field,
+                line,
+            } => text.field(*letter, *field, line),
             Command::Word { at, number } => drop(text.number(*at as u64, 2).number(*number, 20)),
             Command::Lend(lent) => text.lending(*lent),
         }
@@ -288,6 +352,12 @@ impl Command {
             },
             b'R' => columns.writing()?,
             b'F' => columns.framing()?,
+            b'B' => columns.building()?,
+            b'G' => Command::Field {
+                letter: *columns.0.get(1)?,
+                field: columns.number(3, 22)?,
+                line: columns.bytes(23)?,
+            },
             b'N' => Command::Word {
                 at: columns.number(2, 3)? as usize,
                 number: columns.number(4, 23)?,
@@ -385,6 +455,24 @@ impl Columns<'_> {
         (length <= LONGEST_BUFFER).then_some(Command::Frames { entries, length })
     }
 
+    fn building(&self) -> Option<Command> {
+        let letter = self.0.get(1)?;
+        let record = Built::ALL.into_iter().find(|r| r.letter() == *letter)?;
+        let length = self.number(3, 5)? as usize;
+        let stroke = self.0.iter().position(|c| *c == b'|')?;
+        let numbers = std::str::from_utf8(self.0.get(5..stroke)?).ok()?;
+        let values: Option<Vec<u64>> = numbers.split(',').skip(1).map(|n| n.parse().ok()).collect();
+        let (values, texts) = (values?, self.bytes(stroke + 1)?);
+        let possible =
+            length <= LONGEST_SLICE && values.len() <= MOST_VALUES && texts.len() <= MOST_TEXTS;
+        possible.then_some(Command::Build {
+            record,
+            length,
+            values,
+            texts,
+        })
+    }
+
     fn lending(&self) -> Option<Command> {
         let (words, answer) = (self.number(2, 3)? as usize, self.number(4, 4)? as usize);
         let possible = words <= Lent::MOST.words && answer <= Lent::MOST.answer;
@@ -444,6 +532,32 @@ mod tests {
             (Command::Write { record: Written::F, length: 1 }, "RF001"),
             (Command::Frames { entries: 3, length: 105 }, "F03105"),
             (Command::Word { at: 10, number: u64::MAX }, "N1018446744073709551615"),
+            (
+                Command::Build {
+                    record: Built::S,
+                    length: 290,
+                    values: vec![0, u64::MAX, 3],
+                    texts: b"a|\n".to_vec(),
+                },
+                "BS290,0,18446744073709551615,3|a|\n",
+            ),
+            (
+                Command::Build {
+                    record: Built::A,
+                    length: 7,
+                    values: vec![],
+                    texts: vec![],
+                },
+                "BA007|",
+            ),
+            (
+                Command::Field {
+                    letter: b'E',
+                    field: 27,
+                    line: b"E2".to_vec(),
+                },
+                "GE00000000000000000027|E2",
+            ),
             (Command::Lend(Lent { words: 5, answer: 0 }), "K050"),
             (Command::Whole { held, lent: LENT, bytes }, "W02026060403|A\n"),
             (
@@ -478,6 +592,11 @@ mod tests {
         assert_eq!(Command::read(b"RT301"), None);
         assert_eq!(Command::read(b"RT29"), None);
         assert_eq!(Command::read(b"F03501"), None);
+        assert_eq!(Command::read(b"BT290|"), None);
+        assert_eq!(Command::read(b"BA301|"), None);
+        assert_eq!(Command::read(b"BA290,|"), None);
+        assert_eq!(Command::read(b"BA290,1"), None);
+        assert_eq!(Command::read(b"GA0000000000000000000|"), None);
         assert_eq!(Command::read(b"K214"), None);
         assert_eq!(Command::read(b"K177"), None);
         assert_eq!(Command::read(b"N0018446744073709551616"), None);

@@ -162,14 +162,18 @@ fn edit_end(cut: &Cut) -> Finding {
     refuse_if(cut.end == 0, 2, LENGTH + 1)
 }
 
-/// "Characters are hex 20 to 7E"; "3: first bad character, its column".
 fn edit_characters(record: &Record) -> Finding {
     let whole = Field {
         first: 1,
         last: LENGTH,
         kind: Kind::Letter,
     };
-    match record.first_not(&whole, |c| (0x20..=0x7E).contains(&c)) {
+    edit_characters_in(record, &whole)
+}
+
+/// "Characters are hex 20 to 7E"; "3: first bad character, its column".
+pub fn edit_characters_in(record: &Record, field: &Field) -> Finding {
+    match record.first_not(field, |c| (0x20..=0x7E).contains(&c)) {
         Some(column) => Err(broken(3, column)),
         None => Ok(()),
     }
@@ -222,7 +226,7 @@ fn edit_most_s(record: &Record, before: &dyn Before) -> Finding {
 }
 
 /// All rules of one field, in order.
-fn edit_field(record: &Record, field: &Field, before: &dyn Before) -> Finding {
+pub fn edit_field(record: &Record, field: &Field, before: &dyn Before) -> Finding {
     match field.kind {
         Kind::Letter => Ok(()),
         Kind::Blank => blank_space(record, field),

@@ -16,10 +16,10 @@
 //!   fewer than 40 numbers of refusals come.
 //! - `reference needed INPUTS EXPECTED`: the same with pairs that lack one thing of being alike, and
 //!   so get two answers.
-//! - `reference scripts SEED COUNT SCRIPT TOLD`: writes a script of COUNT calls or a few more, and
-//!   writing calls among them, in the language of the program `tests/c/calls.c` (`command` has it),
-//!   and what that program must print. Prints how often each number is the answer, and fails if 71,
-//!   72, one of 80 to 83, 87 or 88 comes fewer than 20 times.
+//! - `reference scripts SEED COUNT SCRIPT TOLD`: writes a script of COUNT calls of the walk or a few
+//!   more, and calls that write, build or read among them, in the language of the program
+//!   `tests/c/calls.c` (`command` has it), and what that program must print. Prints how often each
+//!   number is the answer, and fails if 71, 72, one of 80 to 85, 87 or 88 comes fewer than 20 times.
 //! - `reference calls`: a script on standard input to what the program must print.
 //! - `reference one SEED COUNT K`: the input of one of these cases (counted from 0) to standard
 //!   output, and what it is to standard error. With `--long` it is one of the long files.
@@ -32,6 +32,7 @@ mod alike;
 mod big;
 mod bounds;
 mod breaks;
+mod build;
 mod calendar;
 mod command;
 mod draft;
@@ -54,6 +55,7 @@ mod tables;
 mod tally;
 #[cfg(test)]
 mod tests;
+mod values;
 mod walk;
 mod words;
 mod write;

@@ -1,8 +1,10 @@
 //! What the program `tests/c/calls.c` does with a script: it keeps the words of a state, an id table
 //! of 40 numbers and an employer list of 12 entries from command to command, and prints each answer
-//! with all that the call leaves. A call that writes a record or frames leaves state and tables as
-//! they are, so its answer is printed with the slice alone.
+//! with all that the call leaves. A call that writes or builds a record, or writes frames, leaves
+//! state and tables as they are, so its answer is printed with the slice alone; and one that reads a
+//! field leaves everything.
 
+use crate::build::{self, Built};
 use crate::calendar::Quarter;
 use crate::command::{Alteration, Command, Lent};
 use crate::edits::Refusal;
@@ -35,7 +37,7 @@ pub const MANY_EMPLOYERS: u64 = 65_535;
 /// The word of the employers.
 const EMPLOYERS: usize = 14;
 
-/// What stands in each byte of the slice that `R` or `F` lends.
+/// What stands in each byte of the slice that `R`, `F` or `B` lends.
 const UNWRITTEN: u8 = b'.';
 
 /// What is told for a word of the answer that is not lent.
@@ -66,7 +68,7 @@ impl Program {
         }
     }
 
-    /// Does what a command says; the calls, `X`, `R` and `F` print a line.
+    /// Does what a command says; those that call print a line.
     pub fn run(&mut self, command: &Command) -> Option<Told> {
         match command {
             Command::Open { held, lent } => {
@@ -84,6 +86,17 @@ impl Program {
             Command::Beyond { more, bytes } => Some(self.beyond(*more, bytes)),
             Command::Write { record, length } => Some(self.write(*record, *length)),
             Command::Frames { entries, length } => Some(self.frames(*entries, *length)),
+            Command::Build {
+                record,
+                length,
+                values,
+                texts,
+            } => Some(self.build(*record, *length, values, texts)),
+            Command::Field {
+                letter,
+                field,
+                line,
+            } => Some(self.field(*letter, *field, line)),
             _ => {
                 self.set(command);
                 None
@@ -193,6 +206,28 @@ impl Program {
             Err(number) => [number.into(), 0, 0, 0],
         };
         self.told_of_slice(reply, 4, &buffer)
+    }
+
+    /// Number, line and column; then the slice.
+    fn build(&self, record: Built, length: usize, values: &[u64], texts: &[u8]) -> Told {
+        let mut slice = vec![UNWRITTEN; length];
+        let reply = reply(no_line(record.build(values, texts, &mut slice)));
+        self.told_of_slice(reply, 3, &slice)
+    }
+
+    /// Number, line, column and the number read; then the length of the text and the first column.
+    fn field(&self, letter: u8, field: u64, line: &[u8]) -> Told {
+        let reply = match build::read_number(letter, field, line) {
+            Ok(number) => [0, 0, 0, number],
+            Err(column) => [30, 0, column, 0],
+        };
+        let text = build::text_length(letter, field, line);
+        let told = printed(&self.answered(reply));
+        let others = printed(&[text, build::first_column(letter, field)]);
+        Told {
+            number: reply[0] as u8,
+            line: format!("{told}|{others}\n").into_bytes(),
+        }
     }
 
     /// So many numbers of the answer; then the slice, byte for byte, LF as a slash.

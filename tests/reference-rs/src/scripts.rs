@@ -5,6 +5,7 @@
 
 mod afterwards;
 mod broken;
+mod building;
 mod calls;
 mod chance;
 mod frames;
@@ -18,6 +19,7 @@ mod unfit;
 mod words;
 mod writing;
 
+use crate::build::Built;
 use crate::calendar::Quarter;
 use crate::command::{Alteration, Command, Lent};
 use crate::layout::LENGTH;
@@ -32,10 +34,10 @@ use crate::write::Written;
 use moments::Moment;
 
 /// No script has more bytes.
-pub const LONGEST: usize = 3_000_000;
+pub const LONGEST: usize = 4_000_000;
 
 /// The numbers that no file gets: of them each script has enough.
-pub const PROMISED: [u8; 8] = [71, 72, 80, 81, 82, 83, 87, 88];
+pub const PROMISED: [u8; 10] = [71, 72, 80, 81, 82, 83, 84, 85, 87, 88];
 
 /// While there are fixed scenes left, so many of them come to each one by chance.
 const FIXED_TO_CHANCE: usize = 4;
@@ -49,7 +51,8 @@ pub struct Script {
     pub numbers: Numbers,
     /// The number of the last answer.
     answered: u8,
-    /// Calls so far. Writing calls change nothing and are short: they come on top.
+    /// Calls of the walk so far. Those that write, build or read a field change nothing: they come
+    /// on top.
     calls: u64,
     /// How many fixed scenes had no room.
     pub fixed_scenes_left: usize,
@@ -58,7 +61,7 @@ pub struct Script {
     lent: Room,
 }
 
-/// A script of so many calls or a few more, and writing calls among them.
+/// A script of so many calls of the walk or a few more, and the others among them.
 pub fn make(seed: u64, calls: u64) -> Script {
     let mut rng = Rng::of(seed, 70, 0);
     let mut script = Script::new();
@@ -91,6 +94,7 @@ fn fixed_scenes() -> Vec<Scene> {
     handed_on::add(&mut scenes);
     frames::add(&mut scenes);
     words::add(&mut scenes);
+    building::add(&mut scenes);
     scenes
 }
 
@@ -124,8 +128,7 @@ impl Script {
         if let Some(told) = self.program.run(&read) {
             self.numbers.count(told.number);
             self.answered = told.number;
-            let writes = matches!(read, Command::Write { .. } | Command::Frames { .. });
-            self.calls += u64::from(!writes);
+            self.calls += u64::from(read.walks());
             self.told.extend(told.line);
         }
     }
@@ -161,6 +164,24 @@ impl Script {
 
     fn frames(&mut self, entries: usize, length: usize) {
         self.add(Command::Frames { entries, length });
+    }
+
+    fn build(&mut self, record: Built, values: &[u64], texts: &[u8], length: usize) {
+        self.add(Command::Build {
+            record,
+            length,
+            values: values.to_vec(),
+            texts: without_ends(texts),
+        });
+    }
+
+    fn read_field(&mut self, letter: u8, field: u64, line: &[u8]) {
+        let line = without_ends(line);
+        self.add(Command::Field {
+            letter,
+            field,
+            line,
+        });
     }
 
     fn word(&mut self, at: usize, number: u64) {

@@ -1,6 +1,7 @@
 //! The paper's examples, and what it says of states and tables, as tests.
 
 mod any_state;
+mod building;
 mod calls;
 mod examples;
 mod generated;

@@ -79,9 +79,9 @@ fn refusal_in(words: &Words) -> Option<Refusal> {
     Some(Refusal::new(number, line, words[3].min(u16::MAX.into())))
 }
 
-/// The numbers of refusals in the paper's table.
+/// The numbers of refusals in the papers: those of document 01's table, and 84 and 85 of document 02.
 pub fn is_listed(number: u8) -> bool {
-    matches!(number, 1..=8 | 10..=20 | 30..=63 | 70..=72 | 80..=83)
+    matches!(number, 1..=8 | 10..=20 | 30..=63 | 70..=72 | 80..=85)
 }
 
 #[cfg(test)]

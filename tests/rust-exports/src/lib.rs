@@ -73,6 +73,51 @@ pub mod exports {
             answer: *mut u64,
             answer_length: usize,
         ) -> u64;
+        pub fn wage_build_a(
+            values: *const u64,
+            values_length: usize,
+            texts: *const u8,
+            texts_length: usize,
+            out: *mut u8,
+            out_length: usize,
+            answer: *mut u64,
+            answer_length: usize,
+        ) -> u64;
+        pub fn wage_build_e(
+            values: *const u64,
+            values_length: usize,
+            texts: *const u8,
+            texts_length: usize,
+            out: *mut u8,
+            out_length: usize,
+            answer: *mut u64,
+            answer_length: usize,
+        ) -> u64;
+        pub fn wage_build_s(
+            values: *const u64,
+            values_length: usize,
+            texts: *const u8,
+            texts_length: usize,
+            out: *mut u8,
+            out_length: usize,
+            answer: *mut u64,
+            answer_length: usize,
+        ) -> u64;
+        pub fn wage_field_number(
+            letter: u8,
+            field: usize,
+            line: *const u8,
+            line_length: usize,
+            answer: *mut u64,
+            answer_length: usize,
+        ) -> u64;
+        pub fn wage_field_text(
+            letter: u8,
+            field: usize,
+            line: *const u8,
+            line_length: usize,
+        ) -> u64;
+        pub fn wage_field_first(letter: u8, field: usize) -> u64;
         pub fn wage_frames(
             state: *const u64,
             state_length: usize,
@@ -267,6 +312,71 @@ impl Walk {
         out.truncate(length);
         Ok(out)
     }
+}
+
+/// The value of an account number that is left out.
+pub const NO_ACCOUNT: u64 = u64::MAX;
+
+/// The records that are built.
+#[derive(Clone, Copy, Debug, PartialEq, Eq)]
+pub enum Record {
+    A,
+    E,
+    S,
+}
+
+impl Record {
+    /// Builds the record into 290 bytes. `values` has a number for each field, `texts` the texts one
+    /// behind the other; `include/wage.h` says more, and names the fields.
+    pub fn build(self, values: &[u64], texts: &[u8], out: &mut [u8]) -> Result<(), Refusal> {
+        let build = match self {
+            Record::A => exports::wage_build_a,
+            Record::E => exports::wage_build_e,
+            Record::S => exports::wage_build_s,
+        };
+        let mut answer = [0; 4];
+        unsafe {
+            build(
+                values.as_ptr(),
+                values.len(),
+                texts.as_ptr(),
+                texts.len(),
+                out.as_mut_ptr(),
+                out.len(),
+                answer.as_mut_ptr(),
+                answer.len(),
+            )
+        };
+        told(answer).map(drop)
+    }
+}
+
+/// The number in a field of a line. The letter, a capital, says whose field it is.
+pub fn field_number(letter: u8, field: usize, line: &[u8]) -> Result<u64, Refusal> {
+    let mut answer = [0; 4];
+    unsafe {
+        exports::wage_field_number(
+            letter,
+            field,
+            line.as_ptr(),
+            line.len(),
+            answer.as_mut_ptr(),
+            answer.len(),
+        )
+    };
+    told(answer).map(|_| answer[3])
+}
+
+/// The text in a field of a line, without trailing blanks; none where there is no such field.
+pub fn field_text(letter: u8, field: usize, line: &[u8]) -> &[u8] {
+    let (first, length) = unsafe {
+        (
+            exports::wage_field_first(letter, field),
+            exports::wage_field_text(letter, field, line.as_ptr(), line.len()),
+        )
+    };
+    let start = (first as usize).saturating_sub(1);
+    line.get(start..start + length as usize).unwrap_or(&[])
 }
 
 /// The bytes of an answer, or its refusal.

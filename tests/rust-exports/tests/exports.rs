@@ -3,7 +3,7 @@
 
 use std::fs;
 use std::path::{Path, PathBuf};
-use wage::{exports, Employer, Refusal, Walk};
+use wage::{exports, field_number, field_text, Employer, Record, Refusal, Walk, NO_ACCOUNT};
 
 const YEAR: u64 = 2026;
 const MONTH: u64 = 6;
@@ -175,6 +175,120 @@ fn words_lent_short() {
         (number, state, answer, ids),
         (72, [5; 16], [72, 0, 5, 5], [5])
     );
+}
+
+/// The places of E's fields, as include/wage.h names them.
+const ACCOUNT: usize = 14;
+const E_TEXTS: [(usize, &str); 8] = [
+    (4, "Orchard Hill Farm"),
+    (5, "4 Ridge Road"),
+    (6, "Bangor"),
+    (7, "ME"),
+    (10, "04401"),
+    (21, "Ann Roy"),
+    (22, "ann@orchard.example"),
+    (24, "12"),
+];
+const E_NUMBERS: [(usize, u64); 6] = [
+    (1, 2026),
+    (2, 12_345_678),
+    (ACCOUNT, NO_ACCOUNT),
+    (17, 6),
+    (18, 1),
+    (23, 2_075_550_100),
+];
+
+/// The values and texts of a tidy E record.
+fn values_of_e() -> ([u64; 28], Vec<u8>) {
+    let mut values = [0; 28];
+    for (field, number) in E_NUMBERS {
+        values[field] = number;
+    }
+    for (field, text) in E_TEXTS {
+        values[field] = text.len() as u64;
+    }
+    let texts = E_TEXTS.map(|(_, text)| text);
+    (values, texts.concat().into_bytes())
+}
+
+/// A record that is built and read; the walk accepts it.
+#[test]
+fn records_built() {
+    let (values, texts) = values_of_e();
+    let mut line = [b'\n'; 291];
+    Record::E.build(&values, &texts, &mut line[..290]).unwrap();
+    for (field, number) in E_NUMBERS {
+        if field != ACCOUNT {
+            assert_eq!(field_number(b'E', field, &line), Ok(number));
+        }
+    }
+    for (field, text) in E_TEXTS {
+        assert_eq!(
+            field_text(b'E', field, &line),
+            text.to_uppercase().as_bytes()
+        );
+    }
+    assert_eq!(field_text(b'E', ACCOUNT, &line), b"");
+    assert_eq!(line[172..182], [b' '; 10]);
+    let mut walk = Walk::new(2, 1);
+    walk.open(YEAR, MONTH).unwrap();
+    let mut a = example("accepted-one-employer.txt");
+    a[18..20].copy_from_slice(b"06");
+    assert_eq!(walk.line(&a), Ok(291));
+    assert_eq!(walk.line(&line), Ok(291));
+}
+
+#[test]
+fn records_turned_away() {
+    let (values, texts) = values_of_e();
+    let refused = |column, number| {
+        let line = 0;
+        Err(Refusal {
+            number,
+            line,
+            column,
+        })
+    };
+    let mut out = [b'.'; 290];
+    assert_eq!(
+        Record::E.build(&values, &texts, &mut out[..289]),
+        refused(0, 84)
+    );
+    for (field, value, answer) in [
+        (1, 10_000, refused(2, 85)),
+        (1, 2024, refused(2, 38)),
+        (2, 690_000_000, refused(6, 44)),
+        (4, 51, refused(24, 85)),
+        (4, 0, refused(24, 32)),
+        (17, 4, refused(188, 40)),
+        (18, 2, refused(190, 47)),
+        (27, 6_302_026, refused(283, 50)),
+    ] {
+        let mut other = values;
+        other[field] = value;
+        assert_eq!(Record::E.build(&other, &texts, &mut out), answer, "{field}");
+    }
+    assert_eq!(Record::A.build(&[], &[], &mut out), refused(2, 38));
+    assert_eq!(Record::S.build(&[0], b"", &mut out), refused(11, 32));
+    assert_eq!(out, [b'.'; 290]);
+}
+
+#[test]
+fn fields_that_are_none() {
+    let (values, texts) = values_of_e();
+    let mut line = [0; 290];
+    Record::E.build(&values, &texts, &mut line).unwrap();
+    for (letter, field, column) in [(b'E', 28, 0), (b'e', 1, 0), (b'S', 2, 11), (b'E', 4, 24)] {
+        let refusal = field_number(letter, field, &line).unwrap_err();
+        assert_eq!((refusal.number, refusal.column), (30, column));
+    }
+    assert_eq!(field_text(b'E', 28, &line), b"");
+    assert_eq!(field_text(b'E', usize::MAX, &line), b"");
+    assert_eq!(field_text(b'E', 4, &line[..30]), b"ORCHARD");
+    assert_eq!(field_number(b'E', 1, &line[..4]).unwrap_err().column, 5);
+    for letter in *b"AESTF" {
+        assert_eq!(unsafe { exports::wage_field_first(letter, 1) }, 2);
+    }
 }
 
 /// The inputs of the reference: eight digits of the length, a blank, five digits, LF, the bytes.

@@ -1,0 +1,11 @@
+pub mod Values
+pub mod Building
+pub mod RowLaws
+pub mod FillLaws
+pub mod BuildLaws
+pub mod TextLaws
+pub mod StandLaws
+pub mod ReadLaws
+pub mod Theorems
+pub mod LeftToWalk
+pub mod Example

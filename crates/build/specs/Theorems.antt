@@ -1,0 +1,222 @@
+-- built-read-back, built-passes, turned-away-iff: what a caller may rely on when a record is built, and when it is not.
+use Prim.Native.Nat.{ℕ, zero, suc, _+_, _<_, _≤_}
+use mathlib.Core.Bool.{Bool, true, false}
+use mathlib.Core.List.{List, [], _∷_, _++_, map}
+use mathlib.Core.Path.{_≡_, refl, sym, ap, _∙_}
+use native.Mathlib.Nat.{not-suc-le-zero, le-of-suc-le-suc}
+use native.Mathlib.Omega.{arith}
+use lib.Dec.{eqb, ltb}
+use lib.ListN.{length, getD, length-replicate, getD-replicate}
+use borrow.Author.Tests.{eqb-true, eq-eqb, ltb-true, ltb-false}
+use Rattle.laws.specs.Finding.{Finding, fine, broken, Reading, value, refused}
+use Rattle.laws.specs.Numbered.{Within, within-says}
+use Rattle.laws.specs.Text.{bytes}
+use Rattle.reason.specs.Numbers.{Notice, notice}
+use Rattle.chars.specs.Columns.{widthOf, allowedTest, everyColumn}
+use Rattle.chars.specs.ColumnLaws.{unless-fine, unless-within, every-within, fine-columns, columns-fine}
+use Rattle.chars.specs.declared.columns.Allowed.the-variants.{Permitted}
+use Rattle.text.specs.Put.{blanks}
+use Rattle.number.specs.Numbers.{numberIn}
+use Rattle.layout.specs.Fields.{firstIn, lastIn, noRow}
+use Rattle.layout.specs.Tiling.{tiles, tiles-none, tiles-first}
+use Rattle.edits.specs.Edit.{Edit, firstBroken}
+use Rattle.edits.specs.EditLaws.{AllFine, fine-all, all-fine, all-append, FirstIn, first-of-list}
+use Rattle.edits.specs.Numbered.{AllWithin, none-within, more-within, all-within-append, first-broken-within, own-within}
+use Rattle.edits.specs.Own.{own}
+use Rattle.edits.specs.declared.Marks.{Marks}
+use Rattle.record.specs.Judge.{rowsFor}
+use Rattle.record.specs.Kinds.{kindOf, marksOf, isKnown}
+use Rattle.record.specs.Letters.{kind-of-A, kind-of-E, kind-of-S}
+use Rattle.step.specs.Moves.{allWell}
+use Rattle.write.specs.PartLaws.{puts-keep}
+use Rattle.write.specs.Records.{recordOf}
+use Rattle.build.specs.Building.{partOf, padded, fitsIn, filledEdits, editsOfAll, buildEdits, builtBy, building}
+use Rattle.build.specs.FillLaws.{padded-is, padded-length}
+use Rattle.build.specs.ReadLaws.{Fits, ReadsBack, all-read}
+use Rattle.build.specs.RowLaws.{rows-tiled, rows-readable}
+use Rattle.build.specs.StandLaws.{Each, all-stand}
+use Rattle.build.specs.Values.{amount, none, Filled, formIn, fillRows, fillRecord, amountIn, readBy, asRead}
+use Rattle.build.specs.declared.form.Form.{Form}
+use Rattle.build.specs.declared.form.Form.the-variants.{Amount}
+
+-- ---- the numbers of the refusals: none is 0, "accepted"
+module _ (marks : Marks) (line : List ℕ) where
+  fields-within : (fields : List Filled) → AllWithin 3 85 (editsOfAll marks line fields)
+  unfolding editsOfAll
+  fields-within [] = none-within 3 85
+  fields-within (field ∷ fields) =
+      let first = field .first in
+      let last = field .last in
+      let fits = fitsIn (widthOf first last) (field .value) in
+      let these =
+      more-within 3 85 _ _ (unless-within 3 85 fits first 85 (omega arith, omega arith))
+      (more-within 3 85 _ _ (every-within 3 85 (omega arith, omega arith) (omega arith, omega arith) Permitted line first last)
+      (own-within 3 85 (omega arith) (omega arith) marks (bytes "PFML") (field .class) line first last)) in
+      all-within-append 3 85 (filledEdits marks line field) (editsOfAll marks line fields) these (fields-within fields)
+
+all-within : (marks : Marks) (fields : List Filled) (size : ℕ) → Within 3 85 (firstBroken (buildEdits marks fields size))
+all-within marks fields size =
+    first-broken-within 3 85 (buildEdits marks fields size)
+    (more-within 3 85 _ _ (unless-within 3 85 (eqb size 290) 0 84 (omega arith, omega arith)) (fields-within marks (padded fields) fields))
+
+says-fine : (found : Finding) (line out : List ℕ) → Within 3 85 found → builtBy found line out .says ≡ allWell → found ≡ fine
+says-fine fine line out within says = refl
+says-fine (broken column number) line out within says =
+    let zero : number ≡ 0 = ap (λ (n : Notice). n .number) says in
+    let low = within-says 3 85 (broken column number) within column number refl in
+    absurd (omega arith)
+
+-- ---- of every field
+each-more : (P Q : Filled → Type 0) (fields : List Filled) → ((field : Filled) → P field → Q field) → Each P fields → Each Q fields
+each-more P Q [] more all = tt
+each-more P Q (field ∷ fields) more all = (more field (all .0), each-more P Q fields more (all .1))
+
+-- What is asked of a field: its value fits, its characters are permitted, and its own rules refuse nothing in the padded record.
+pub record Passes (marks : Marks) (line : List ℕ) (field : Filled) : Type 0 where
+  pub fits : Fits field
+  pub permitted : everyColumn Permitted line (field .first) (field .last) ≡ fine
+  pub own-fine : AllFine (own marks (bytes "PFML") (field .class) line (field .first) (field .last))
+
+module _ (marks : Marks) (line : List ℕ) where
+  fine-each : (fields : List Filled) → AllFine (editsOfAll marks line fields) → Each (Passes marks line) fields
+  unfolding editsOfAll
+  fine-each [] all = tt
+  fine-each (field ∷ fields) all =
+      let both = all-append (filledEdits marks line field) (editsOfAll marks line fields) all in
+      let these = both .0 in (
+        record { fits = unless-fine _ (field .first) 85 (these .0); permitted = these .1 .0; own-fine = these .1 .1 },
+        fine-each fields (both .1),
+      )
+
+  append-all : (a b : List Edit) → AllFine a → AllFine b → AllFine (a ++ b)
+  append-all [] b p q = q
+  append-all (edit ∷ a) b p q = (p .0, append-all a b (p .1) q)
+
+  each-fine : (fields : List Filled) → Each (Passes marks line) fields → AllFine (editsOfAll marks line fields)
+  unfolding editsOfAll
+  each-fine [] all = tt
+  each-fine (field ∷ fields) all =
+      let here = all .0 in
+      append-all (filledEdits marks line field) (editsOfAll marks line fields) (rw (here .fits) refl, (here .permitted, here .own-fine)) (each-fine fields (all .1))
+
+-- ---- the whole line
+columns-everywhere : (letter : ℕ) (line : List ℕ) (rows : List (List ℕ)) (from : ℕ) (values texts : List ℕ) → tiles from rows ≡ true
+    → Each (λ (field : Filled). everyColumn Permitted line (field .first) (field .last) ≡ fine) (fillRows letter rows values texts)
+    → (k : ℕ) → from ≤ k + 1 → k < 290 → allowedTest Permitted line k ≡ fine
+unfolding fillRows
+columns-everywhere letter line [] from values texts t all k low high = absurd (omega (arith, tiles-none from t))
+columns-everywhere letter line (row ∷ rows) from values texts t all k low high =
+    let tile = tiles-first from row rows t in
+    by (ltb k (lastIn row)) refl (tile .0) (columns-everywhere letter line rows (lastIn row + 1) _ _ (tile .2) (all .1) k) where
+      by : (here : Bool) → ltb k (lastIn row) ≡ here → firstIn row ≡ from → (lastIn row + 1 ≤ k + 1 → k < 290 → allowedTest Permitted line k ≡ fine)
+          → allowedTest Permitted line k ≡ fine
+      by true e begins later = fine-columns Permitted line (firstIn row) (lastIn row) (all .0) k (omega arith) (ltb-true k (lastIn row) e)
+      by false e begins later = later (omega (arith, ltb-false k (lastIn row) e)) high
+
+-- ---- a field by its number
+amount-only : (r : Reading) (v : ℕ) → amountIn r ≡ amount v → r ≡ value v
+amount-only (value w) v e = let same : w ≡ v = cc in rw same
+amount-only (refused column number) v e = let z : _≡_ {A = ℕ} 0 1 = cc in absurd (omega arith)
+
+read-at : (letter : ℕ) (line : List ℕ) (rows : List (List ℕ)) (values texts : List ℕ) → Each (ReadsBack line) (fillRows letter rows values texts)
+    → (k : ℕ) → k < length rows
+    → readBy (formIn (getD rows k noRow)) line (firstIn (getD rows k noRow)) (lastIn (getD rows k noRow))
+    ≡ asRead (getD (map (λ (field : Filled). field .value) (fillRows letter rows values texts)) k none)
+unfolding fillRows
+read-at letter line [] values texts all k h = absurd (not-suc-le-zero h)
+read-at letter line (row ∷ rows) values texts all zero h = all .0
+read-at letter line (row ∷ rows) values texts all (suc k) h = read-at letter line rows _ _ (all .1) k (le-of-suc-le-suc h)
+
+-- ---- the theorems
+-- The letters of A, E and S name records.
+pub known-letters : (isKnown (kindOf 65) ≡ true) × (isKnown (kindOf 69) ≡ true) × (isKnown (kindOf 83) ≡ true)
+known-letters = (ap isKnown kind-of-A, ap isKnown kind-of-E, ap isKnown kind-of-S)
+
+-- The record of a letter is built from values and texts: the call is answered by "accepted".
+abbrev pub Built : ℕ → List ℕ → List ℕ → List ℕ → Type 0
+Built letter values texts out = building letter values texts out .says ≡ allWell
+
+module _ (letter : ℕ) (values texts out : List ℕ) where
+  abbrev pub marksFor : Marks
+  marksFor = marksOf (kindOf letter)
+
+  abbrev pub given : List Filled
+  given = fillRecord letter values texts
+
+  no-edit : Built letter values texts out → firstBroken (buildEdits marksFor given (length out)) ≡ fine
+  unfolding building
+  no-edit built = says-fine (firstBroken (buildEdits marksFor given (length out))) (padded given) out (all-within marksFor given (length out)) built
+
+  -- Then the slice is the padded record.
+  pub built-slice : Built letter values texts out → building letter values texts out .out ≡ padded given
+  unfolding building
+  built-slice built = rw (no-edit built)
+
+  -- A refusal is the first broken edit in the stated order, and the slice is then as it was.
+  pub refused-first : (column number : ℕ) → firstBroken (buildEdits marksFor given (length out)) ≡ broken column number
+      → (building letter values texts out ≡ record { says = notice number 0 column; out = out }) × FirstIn (buildEdits marksFor given (length out)) column number
+  unfolding building
+  refused-first column number e = (rw e, first-of-list (buildEdits marksFor given (length out)) column number e)
+
+  -- turned-away-iff: it is built exactly if the slice has 290 bytes and every value passes; so it is turned away exactly if the slice has another
+  -- length, or a value is too long for its field, or it holds a bad character, or the field's own rules refuse the padded result.
+  pub turned-away-iff :
+      (Built letter values texts out → (length out ≡ 290) × Each (Passes marksFor (padded given)) given)
+      × ((length out ≡ 290) × Each (Passes marksFor (padded given)) given → Built letter values texts out)
+  unfolding building
+  turned-away-iff = (
+    λ built.
+        let all = fine-all (buildEdits marksFor given (length out)) (no-edit built) in
+        (eqb-true (length out) 290 (unless-fine _ 0 84 (all .0)), fine-each marksFor (padded given) given (all .1)),
+    λ passes.
+        let found = all-fine (buildEdits marksFor given (length out)) (rw (eq-eqb (length out) 290 (passes .0)) refl, each-fine marksFor (padded given) given (passes .1)) in
+        rw found,
+  )
+
+  module _ (known : isKnown (kindOf letter) ≡ true) (built : Built letter values texts out) where
+    passing : Each (Passes marksFor (padded given)) given
+    passing = turned-away-iff .0 built .1
+
+    final-length : length (recordOf (map partOf given)) ≡ 290
+    final-length = puts-keep (map partOf given) (blanks 290) ∙ length-replicate {A = ℕ} 290 0x20
+
+    -- built-read-back: each field of a built record reads as its value.
+    pub built-read-back : Each (ReadsBack (building letter values texts out .out)) given
+    built-read-back =
+        rw (built-slice built, padded-is given)
+        (all-read letter (recordOf (map partOf given)) final-length (rowsFor (kindOf letter)) values texts (rows-readable (kindOf letter) known)
+        (all-stand letter (rowsFor (kindOf letter)) 1 values texts (blanks 290) (rows-tiled (kindOf letter) known) (omega arith) (length-replicate {A = ℕ} 290 0x20)
+        (λ k low high. getD-replicate {A = ℕ} 290 k 0x20 0 high))
+        (each-more (Passes marksFor (padded given)) Fits given (λ field passes. passes .fits) passing))
+
+    -- The same of field k, counted from 0, by the row that the readers take; and of a number: it is read as the number given.
+    pub field-read-back : (k : ℕ) → k < length (rowsFor (kindOf letter))
+        → readBy (formIn (getD (rowsFor (kindOf letter)) k noRow)) (building letter values texts out .out) (firstIn (getD (rowsFor (kindOf letter)) k noRow))
+        (lastIn (getD (rowsFor (kindOf letter)) k noRow))
+        ≡ asRead (getD (map (λ (field : Filled). field .value) given) k none)
+    field-read-back k h = read-at letter (building letter values texts out .out) (rowsFor (kindOf letter)) values texts built-read-back k h
+
+    pub number-read-back : (k : ℕ) → k < length (rowsFor (kindOf letter)) → formIn (getD (rowsFor (kindOf letter)) k noRow) ≡ Amount
+        → (v : ℕ) → getD (map (λ (field : Filled). field .value) given) k none ≡ amount v
+        → numberIn (building letter values texts out .out) (firstIn (getD (rowsFor (kindOf letter)) k noRow)) (lastIn (getD (rowsFor (kindOf letter)) k noRow)) ≡ value v
+    number-read-back k h is v gives =
+        let line = building letter values texts out .out in
+        let first = firstIn (getD (rowsFor (kindOf letter)) k noRow) in
+        let last = lastIn (getD (rowsFor (kindOf letter)) k noRow) in
+        amount-only (numberIn line first last) v (ap (λ (form : Form). readBy form line first last) (sym is) ∙ field-read-back k h ∙ ap asRead gives)
+
+    -- built-passes: it has 290 characters, all permitted, and passes the own edits of its fields.
+    pub built-passes :
+        (length (building letter values texts out .out) ≡ 290)
+        × (everyColumn Permitted (building letter values texts out .out) 1 290 ≡ fine)
+        × Each (λ (field : Filled). AllFine (own marksFor (bytes "PFML") (field .class) (building letter values texts out .out) (field .first) (field .last))) given
+    built-passes =
+        rw (built-slice built) (
+          padded-length given,
+          columns-fine Permitted (padded given) 1 290
+              (λ k low high. columns-everywhere letter (padded given) (rowsFor (kindOf letter)) 1 values texts (rows-tiled (kindOf letter) known)
+              (each-more (Passes marksFor (padded given)) (λ (field : Filled). everyColumn Permitted (padded given) (field .first) (field .last) ≡ fine) given
+              (λ field passes. passes .permitted) passing) k (omega arith) high),
+          each-more (Passes marksFor (padded given)) (λ (field : Filled). AllFine (own marksFor (bytes "PFML") (field .class) (padded given) (field .first) (field .last))) given
+              (λ field passes. passes .own-fine) passing,
+        )
