@@ -29,7 +29,7 @@ typedef struct wage_employer {
 
 /* Every call but wage_field_text and wage_field_first returns a number: 0 if all is well, else that of the refusal.
  *
- *   1 to 63   the file is refused: docs/REASONS.md has every number
+ *   1 to 64   the file is refused: docs/REASONS.md has every number
  *   70        year and month are no last closed quarter
  *   71        a line or the end after acceptance; nothing changed
  *   72        the state is unfit: words that tell no walk, numbers that no walk has, or more in use than the tables lent hold; nothing changed
@@ -90,7 +90,7 @@ enum {
 
 /* The tables. `ids` has room for the identity numbers under one employer (a zero one takes none), `list` for the employers of the file: at most
  * 65,536 are taken. No room for one more is refusal 62 or 63. A call may be lent tables of another length than the call before, as long as they hold
- * what is in use (else 72); their content is the caller's to keep. A refusal from 1 to 63 zeroes every entry of both, again with each later line or
+ * what is in use (else 72); their content is the caller's to keep. A refusal from 1 to 64 zeroes every entry of both, again with each later line or
  * end call; behind acceptance `list` holds the employers in file order, then zeros, and `ids` zeros. */
 
 /* Opens a walk for the last closed quarter, year 2025 to 9999 and month 3, 6, 9 or 12: zeroes both tables and fills the state. 70 for another
@@ -194,7 +194,7 @@ enum {
  *
  * In this order: 84 if `out` is not 290 bytes, column 0; then field by field, in the order of the columns: 85 if the value is longer than the field, at the
  * field's first column (trailing blanks count); 3 at the first character that a file may not hold; then the field's own rules over the padded record, of
- * docs/REASONS.md 32, 33, 35 to 38, 40, 44, 47, 48, 50, 51, 52 and 54, with their columns. If refused, `out` is untouched. The line is always 0. Rules that look at
+ * docs/REASONS.md 32, 33, 35 to 38, 40, 44, 47, 48, 50, 51, 52, 54 and 64, with their columns. If refused, `out` is untouched. The line is always 0. Rules that look at
  * other records or at the last closed quarter are those of wage_line: what is built here may still be refused there. */
 uint64_t wage_build_a(const uint64_t *values, size_t values_length, const uint8_t *texts, size_t texts_length, uint8_t *out, size_t out_length,
                       uint64_t *answer, size_t answer_length);

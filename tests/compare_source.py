@@ -7,7 +7,8 @@ DOCUMENTS is the folder that holds document 000 (its file name begins with 000_)
 ../shared/documents from the repository's root if not given. DIR is the repository's root; the one that holds this file if not given.
 
 The five tables and the codes are read from document 000. What each field is, its class, follows from the table's own words: type, rules
-and the field's name. The readings of document 01 (which location is read as two, how many fields, which reasons) are read from its sentences.
+and the field's name. The readings of document 01 (which location is read as two, how many fields, which reasons) are read from its sentences,
+and from those of document 02 the reasons that its requests add, where docs/changes has a note of the request.
 One line for each comparison; the last line is 'N passed, M failed'.
 """
 import argparse
@@ -16,8 +17,6 @@ import re
 import sys
 
 RECORDS = "AESTF"
-# The requests of document 02 that have landed.
-LANDED = ("ii",)
 COUNTS = {"passed": 0, "failed": 0}
 
 
@@ -157,10 +156,13 @@ def paper_numbers(paper):
     return numbers - {0}
 
 
-def request_numbers(requests):
-    """The numbers that the requests landed give to new refusals: those above document 01's last for a field."""
-    landed = [part for name in LANDED for part in re.findall(r"^\*\*\(%s\) .*$" % name, requests, re.M)]
-    return {int(n) for part in landed for n in re.findall(r"(?<![\d,.^])\d\d(?!\d|,\d)", part) if int(n) > 63}
+def later_numbers(requests, built):
+    """The numbers that the change requests of document 02 add, of those that are built: 'Refusals: 64, right after 44 and before 45, ..'"""
+    numbers = set()
+    for name, refusals in re.findall(r"^\*\*\((\w+)\) .*Refusals?[^:]*:(.*)$", requests, re.M):
+        if built(name):
+            numbers |= {int(n) for n in re.findall(r"(?<![\d,.])([1-9]\d)(?![\d,]\d)(?!\d)", refusals)}
+    return numbers
 
 
 # ---- the crates
@@ -305,10 +307,9 @@ def compare_codes(read, source, paper):
         same("%s, in specs" % name, wanted, found(r'\n%s = codesIn \(bytes "([^"]*)"\)' % name, specs, name).group(1).split(" "))
 
 
-def compare_reasons(read, paper, requests):
+def compare_reasons(read, paper, later):
     told, given = code_reasons(read("crates/reason/src/lib.rt"))
-    wanted = sorted(paper_numbers(paper) | request_numbers(requests))
-    same("the numbers of the reasons are those of document 01, and of the requests landed", wanted, sorted(given.values()))
+    same("the numbers of the reasons are those of document 01 and of the requests that are built", sorted({*paper_numbers(paper), *later}), sorted(given.values()))
     same("each reason's comment has its number", sorted(given.items()), sorted(told.items()))
     specs = re.findall(r"\nnumberOf (\w+) = (\d+)", read("crates/reason/specs/Numbers.antt"))
     same("the numbers in specs are those of the code", sorted(given.items()), sorted((name, int(n)) for name, n in specs))
@@ -346,13 +347,14 @@ def main():
     words.add_argument("--root", default=here)
     given = words.parse_args()
     folder = given.documents or os.path.join(given.root, "..", "shared", "documents")
-    source, paper, requests = (document(folder, begins) for begins in ("000_", "01-scope", "02-change-requests"))
+    source, paper, requests = document(folder, "000_"), document(folder, "01-scope"), document(folder, "02-change")
+    later = later_numbers(requests, lambda name: os.path.exists(os.path.join(given.root, "docs", "changes", name + ".md")))
     fields, read = as_read(source, paper), reader(given.root)
     compare_source(source, paper, fields)
     compare("the list of fields", compare_fields, read, source, fields)
     compare("the map of columns", compare_map, read, fields)
     compare("the codes", compare_codes, read, source, paper)
-    compare("the reasons", compare_reasons, read, paper, requests)
+    compare("the reasons", compare_reasons, read, paper, later)
     print("%d passed, %d failed" % (COUNTS["passed"], COUNTS["failed"]))
     sys.exit(1 if COUNTS["failed"] else 0)
 

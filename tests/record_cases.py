@@ -94,6 +94,8 @@ def rule(letter, name, a, b, text, c):
     if name == "EMPLOYER_FEIN":
         if text[a - 1:a + 1] == "69":
             return 44
+        if text[a - 1:b] == "000000000":
+            return 64
         return 0 if letter == "A" else 45 if c["seen_fein"] else 63 if c["list_full"] else 0
     if name == "FLAG" or (name == "THIRD_QUARTER_FLAG" and text[187:189] == "09"):
         return 0 if text[a - 1] in "01" else 47
@@ -182,9 +184,15 @@ def good_record(letter, c, pick):
     return fill(text, ((2, "%010d" % c["all_count"]), (12, "%010d" % c["employers"]), (22, "PFML"), (41, "%015d" % c["all_sum"])))
 
 
+# Where the FEIN stands.
+FEIN_AT = {"A": 6, "E": 6, "S": 147, "T": 13}
+
+
 def damaged(text, letter, pick):
     name, a, b = pick.choice(ROWS[letter])
     way = pick.random()
+    if letter in FEIN_AT and pick.random() < 0.05:
+        return put(text, FEIN_AT[letter], "000000000")
     if way < 0.45:
         return put(text, pick.randrange(a, b + 1), pick.choice(" 0123456789AEX-'.~\t9"))
     if way < 0.7:
@@ -224,6 +232,25 @@ def header(c):
         c["list_full"], c["seen_fein"], c["seen_id"])
 
 
+# A context in which each record may come.
+CALM = dict(held=(2026, 6), filed=(2026, 3), fein=12345678, follow=1, count=3, sum=5, all_count=7, employers=2, all_sum=9, ids_full=0, list_full=0,
+            seen_fein=0, seen_id=0)
+
+
+def zero_feins(pick):
+    """A FEIN of nine zeros: in A and E, in E though it was seen and the list is full, beside rules of a field before it and of one behind it; in S and T,
+    also where the open E's is no other."""
+    zeros, name, year = "000000000", (24, " "), (2, "2024")
+    for letter, more, fein, *changes in (
+            ("A", {}, zeros), ("A", {}, "000000001"), ("A", {}, "00000000 "), ("A", {}, zeros, name), ("A", {}, zeros, year), ("A", {"phase": 1}, zeros),
+            ("E", {}, zeros), ("E", {}, "100000000"), ("E", {}, " 00000000"), ("E", {}, zeros, name), ("E", {}, zeros, year), ("E", {"phase": 2}, zeros),
+            ("E", {"seen_fein": 1, "list_full": 1}, zeros), ("E", {"seen_fein": 1, "list_full": 1}, "000000001"), ("E", {"list_full": 1}, zeros),
+            ("S", {}, zeros), ("S", {"fein": 0}, zeros), ("T", {}, zeros), ("T", {"fein": 0}, zeros)):
+        c = dict(CALM, phase={"A": 0, "E": 1, "S": 2, "T": 2}[letter])
+        c.update(more)
+        yield c, fill(good_record(letter, c, pick), ((FEIN_AT[letter], fein), *changes)) + "\n"
+
+
 def lines_by_chance(pick):
     while True:
         letter = pick.choice(LETTERS)
@@ -240,9 +267,10 @@ def lines_by_chance(pick):
 
 
 def made(seed):
+    pick = random.Random(seed)
     given, told = [], []
     size = 0
-    for c, data in itertools.chain(identity_lines(), lines_by_chance(random.Random(seed))):
+    for c, data in itertools.chain(identity_lines(), zero_feins(pick), lines_by_chance(pick)):
         case = header(c) + data + "#"
         size += len(case)
         if size > ROOM:

@@ -106,7 +106,8 @@ def read_flag(text, column):
 
 
 def read_fein(text, first, last):
-    return read_rule(lambda v: not ("%09d" % v).startswith("69") or v > 999999999, 44, False, text, first, last)
+    found = read_rule(lambda v: not ("%09d" % v).startswith("69") or v > 999999999, 44, False, text, first, last)
+    return (64, first, 0) if found == (0, 0, 0) else found
 
 
 def may_be_filed(digits):

@@ -24,7 +24,7 @@ LONG = 65540
 # what is told for a word of the answer that is not lent
 UNTOLD = 999
 # the numbers that S can put into a refused state; another is read as the last
-NUMBERS = (1, 44, 63, 70, 71, 72, 80, 83)
+NUMBERS = (1, 44, 63, 64, 70, 71, 72, 80, 83)
 # the digit columns of each command, by their widths, in order from the second character on
 STATE = (("stage", 1), ("number", 2), ("line", 10), ("column", 5), ("lines", 10), ("held_year", 5), ("held_month", 2), ("filed_year", 5),
          ("filed_month", 2), ("fein", 10), ("follow", 1), ("count", 10), ("sum", 19), ("all_count", 10), ("employers", 10), ("all_sum", 19), ("used", 10))
@@ -291,7 +291,7 @@ def accepted(w):
     w.line(s_record(111111111, 123456) + "\r")
     w.line(s_record(0, 44) + "\n\r")
     w.line(s_record(0, 0) + "\r\n")
-    w.lines(s_record(222222222, MOST_WAGES - 123500), t_record(4, MOST_WAGES), e_record(0), s_record(111111111, 1, 0), t_record(1, 1, 0))
+    w.lines(s_record(222222222, MOST_WAGES - 123500), t_record(4, MOST_WAGES), e_record(7), s_record(111111111, 1, 7), t_record(1, 1, 7))
     w.line(f_record(5, 2, MOST_WAGES + 1).lower() + "\n")
     w.end()
     w.end()
@@ -456,6 +456,33 @@ def room(w):
         w.lines(e_record(fein))
 
 
+def nine_zeros(w):
+    """64, of A and of E, with content in the tables, and called again; before 45 and 63, behind the place. In S and T zeros are a FEIN as any other."""
+    w.lent = (2, 2)
+    w.open(HELD)
+    content(w)
+    w.lines(records.put(a_record(), 6, "000000000"))
+    w.open(HELD)
+    w.lines(a_record())
+    content(w)
+    w.lines(e_record(0))
+    content(w)
+    w.lines(e_record(5))
+    content(w)
+    w.end()
+    for employers, fein in ((2, 0), (2, 7), (1, 1)):
+        w.table(0, 111111111, 0, (0, 0, 0))
+        w.state(standing(AFTER_T, employers=employers))
+        w.lines(e_record(fein))
+    w.state(standing(E_OPEN))
+    w.lines(e_record(0))
+    for fein in (FEIN, 0):
+        for text in (s_record(0, 1, 0), t_record(1, 100, 0)):
+            w.state(standing(E_OPEN, fein=fein))
+            w.lines(text)
+    w.whole(HELD, joined(a_record(), e_record(0), s_record(111111111, 7, 0), t_record(1, 7, 0), f_record(1, 1, 7)))
+
+
 def totals(w):
     """T against the S records, F against the file; never against the list."""
     w.lent = (2, 2)
@@ -543,7 +570,7 @@ MOST = 2**64 - 1
 def no_walks(w):
     """Words that tell no walk: a standing above 6, numbers that are not listed. Every call answers 72, and every word stays."""
     w.lent = (2, 3)
-    for stage, at, numbers in ((E_OPEN, 0, (7, 256, 2**32, 2**32 + 2, MOST)), (REFUSED, 1, (0, 9, 21, 29, 64, 73, 84, 87, 88, 300, 2**32 + 44, MOST))):
+    for stage, at, numbers in ((E_OPEN, 0, (7, 256, 2**32, 2**32 + 2, MOST)), (REFUSED, 1, (0, 9, 21, 29, 65, 73, 84, 87, 88, 300, 2**32 + 44, MOST))):
         for number in numbers:
             content(w)
             w.state(standing(stage))
@@ -631,7 +658,7 @@ def written(w):
         w.lines(exports.write_call(letter, w.program.st, 290)[1])
 
 
-HAND = (accepted, in_one_slice, line_ends, afterwards, ends, bounds, no_bounds, room, totals, at_the_bounds, altered, other_lengths, beyond, no_walks,
+HAND = (accepted, in_one_slice, line_ends, afterwards, ends, bounds, no_bounds, room, nine_zeros, totals, at_the_bounds, altered, other_lengths, beyond, no_walks,
         odd_words, lent_short, frames, written)
 
 
@@ -796,6 +823,10 @@ def files_by_hand():
         ("an ITIN takes room and repeats as another number", replies(*[(A, E, s_record(900500000, 1), s_record(n, 1)) for n in (900500000, 999999999, 999930000)]),
          [(53, 4, 2, 0), (7, 5, 1, 0), (52, 4, 2, 0)]),
         ("g. FEIN 690000000", tried(joined(A, e_record(690000000))), refused(44, 2, 6)),
+        ("a FEIN of nine zeros in A", tried(joined(records.put(A, 6, "000000000"), E)), refused(64, 1, 6)),
+        ("a FEIN of nine zeros in E, and no list", tried(joined(A, e_record(0)), 2, 0), refused(64, 2, 6, 2, 0)),
+        ("FEIN 000000001", tried(joined(A, e_record(1, 0), t_record(0, 0, 1), F0)), (GOOD, ACCEPTED, [0, 0], [(1, 0, 0), NO_ENTRY])),
+        ("nine zeros in S and in T", replies((A, E, s_record(5, 1, 0)), (A, E, *TWO, t_record(2, 123500, 0))), [(46, 3, 147, 0), (46, 5, 13, 0)]),
         ("one person, two employers", tried(joined(*two), 1), (GOOD, ACCEPTED, [0], [(FEIN, 1, 1), (7, 1, 2)])),
         ("i. zero twice, and no room", tried(joined(A, E, s_record(0, 1), s_record(0, 1), t_record(2, 2), f_record(2, 1, 2)), 0),
          (GOOD, ACCEPTED, [], [(FEIN, 2, 2), NO_ENTRY])),

@@ -17,7 +17,7 @@ MOST_LINES = 231074
 MOST_WAGES = 99999999999999
 MOST_FEIN = 999999999
 # the numbers that a refusal leaves in the state: those of lines and of the end of the input, and that of a bad quarter
-LEFT = {*range(1, 9), *range(10, 21), *range(30, 64), 70}
+LEFT = {*range(1, 9), *range(10, 21), *range(30, 65), 70}
 NO_ENTRY = (0, 0, 0)
 
 
@@ -88,7 +88,7 @@ def clear(ids, entries):
 
 
 def refuse(number, line, column, ids, entries):
-    """A refusal from 1 to 63: both tables zeroed, and of the state nothing kept but number and place."""
+    """A refusal by an edit or by the end of the input: both tables zeroed, and of the state nothing kept but number and place."""
     clear(ids, entries)
     return State(stage=REFUSED, number=number, line=line, column=column), Reply(number, line, column)
 

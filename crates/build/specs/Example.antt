@@ -13,7 +13,7 @@ use Rattle.codes.specs.Codes as Codes
 use Rattle.chars.specs.Characters.{isPermitted, capitalOf, capitals, isBlank, isDigit, isLetter, isOfName}
 use Rattle.chars.specs.Columns.{columnTest, everyColumn}
 use Rattle.number.specs.Numbers.{numberFrom, numberIn, valueIn, putDigits, putNumber}
-use Rattle.number.specs.Rules.{periodIn, flagIn, beginsWith69, mayBeFiled}
+use Rattle.number.specs.Rules.{periodIn, flagIn, beginsWith69, isNineZeros, mayBeFiled}
 use Rattle.text.specs.Put.{blanks, putText}
 use Rattle.text.specs.Text.{allBlank, isIndented, isAsked, readsAs, hasPattern}
 use Rattle.field.specs.Classes.{classes, classOf}
@@ -40,7 +40,7 @@ unfolding
     bytes firstOf isDate isFilingYear isQuarterMonth
     Codes.codesIn Codes.states Codes.provinces Codes.isCode Codes.isAmong Codes.regionOf
     isPermitted capitalOf capitals isBlank isDigit isLetter isOfName columnTest everyColumn
-    numberFrom numberIn valueIn putDigits putNumber periodIn flagIn beginsWith69 mayBeFiled
+    numberFrom numberIn valueIn putDigits putNumber periodIn flagIn beginsWith69 isNineZeros mayBeFiled
     putText allBlank isIndented isAsked readsAs hasPattern
     classes classOf fieldsOfE fieldsOfS firstBroken kindOf putAll
     padded editsOfAll building fillRows

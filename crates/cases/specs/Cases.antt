@@ -1,4 +1,5 @@
--- The cases a to l of "Checked by hand", proved together as one table: each is a whole file, and its outcome is computed from the definitions.
+-- The cases a to l of "Checked by hand", proved together as one table: each is a whole file, and its outcome is computed from the definitions. A
+-- second table has those of a FEIN of nine zeros.
 -- A computed example has to open the definitions that it computes with, those of crates below it too. Nothing rests on it.
 use Prim.Native.Nat.{ℕ}
 use Prim.Native.String.{String}
@@ -16,7 +17,7 @@ use Rattle.codes.specs.Codes as Codes
 use Rattle.chars.specs.Characters.{isPermitted, capitalOf, capitals, isBlank, isDigit, isLetter, isOfName}
 use Rattle.chars.specs.Columns.{columnTest, everyColumn}
 use Rattle.number.specs.Numbers.{numberFrom, numberIn, valueIn}
-use Rattle.number.specs.Rules.{periodIn, flagIn, beginsWith69, mayBeFiled}
+use Rattle.number.specs.Rules.{periodIn, flagIn, beginsWith69, isNineZeros, mayBeFiled}
 use Rattle.text.specs.Text.{allBlank, isIndented, isAsked, readsAs, hasPattern}
 use Rattle.field.specs.Classes.{classes, classOf}
 use Rattle.layout.specs.Fields.{fieldsOfA, fieldsOfE, fieldsOfS, fieldsOfT, fieldsOfF}
@@ -54,7 +55,7 @@ unfolding
     isLeap monthDays daysIn isDate inQuarter isFilingYear isQuarterMonth isAfter
     Codes.codesIn Codes.states Codes.provinces Codes.isCode Codes.isAmong Codes.regionOf
     isPermitted capitalOf capitals isBlank isDigit isLetter isOfName columnTest everyColumn
-    numberFrom numberIn valueIn periodIn flagIn beginsWith69 mayBeFiled
+    numberFrom numberIn valueIn periodIn flagIn beginsWith69 isNineZeros mayBeFiled
     allBlank isIndented isAsked readsAs hasPattern
     classes classOf fieldsOfA fieldsOfE fieldsOfS fieldsOfT fieldsOfF
     ruleList ruleOf fieldEdits kindOf rulesOfA rulesOfE rulesOfS rulesOfT rulesOfF
@@ -115,3 +116,15 @@ table =
 pub cases : map computed table ≡ map (λ (c : Case). c .stated) table
 unfolding computed
 cases = refl
+
+-- (iii) of document 02, "A FEIN of nine zeros": 64 in A and in E; in S and T it is not the open E's, 46.
+abbrev pub nineZeros : List Case
+nineZeros =
+    case "iii" (exampleWith (reads 1 6 "000000000" ∷ [])) (refused (notice 64 1 6)) ∷
+    case "iii" (exampleWith (ofEmployer "000000000")) (refused (notice 64 2 6)) ∷
+    case "iii" (exampleWith (reads 3 147 "000000000" ∷ [])) (refused (notice 46 3 147)) ∷
+    case "iii" (exampleWith (reads 5 13 "000000000" ∷ [])) (refused (notice 46 5 13)) ∷ []
+
+pub nine-zeros : map computed nineZeros ≡ map (λ (c : Case). c .stated) nineZeros
+unfolding computed
+nine-zeros = refl

@@ -1,4 +1,4 @@
--- The numbers that edits find. Bounds that hold 3, the least that a column is refused by, and 63, the last of a field's rules, hold every number
+-- The numbers that edits find. Bounds that hold 3, the least that a column is refused by, and 64, the last of a field's rules, hold every number
 -- that an edit of a field finds.
 use Prim.Native.Nat.{ℕ, _≤_}
 use mathlib.Core.Bool.{true, _&&_}
@@ -51,10 +51,10 @@ module _ (least most : ℕ) where
   first-broken-within [] all = fine-within least most
   first-broken-within (edit ∷ edits) all = or-within least most (edit .finds) (firstBroken edits) (all .0) (first-broken-within edits (all .1))
 
-  module _ (low : least ≤ 3) (high : 63 ≤ most) where
-    -- The bounds hold every number from 3 to 63.
-    inside : (number : ℕ) → leb 3 number && leb number 63 ≡ true → Between least most number
-    inside number e = let w = within 3 number 63 e in omega arith
+  module _ (low : least ≤ 3) (high : 64 ≤ most) where
+    -- The bounds hold every number from 3 to 64.
+    inside : (number : ℕ) → leb 3 number && leb number 64 ≡ true → Between least most number
+    inside number e = let w = within 3 number 64 e in omega arith
 
     ruleset numbers = (none-within, more-within, inside, unless-within, every-within, choice-within, fine-within, period-within, flag-within, entity-within, state-within, zip-within, extension-within)
 

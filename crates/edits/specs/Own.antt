@@ -10,7 +10,7 @@ use Rattle.calendar.specs.Quarters.{isFilingYear}
 use Rattle.chars.specs.declared.columns.Allowed.the-variants.{Blanks, Digits, OfNames}
 use Rattle.chars.specs.Columns.{everyColumn}
 use Rattle.number.specs.Numbers.{valueIn}
-use Rattle.number.specs.Rules.{periodIn, flagIn, beginsWith69, mayBeFiled}
+use Rattle.number.specs.Rules.{periodIn, flagIn, beginsWith69, isNineZeros, mayBeFiled}
 use Rattle.text.specs.Text.{allBlank, isIndented, entityTest}
 use Rattle.text.specs.Address.{regionIn, stateTest, zipTest, extensionTest}
 use Rattle.field.specs.declared.class.Class.{Class}
@@ -38,6 +38,10 @@ digitsEdit line first last = eachColumn 30 Digits line first last
 -- "Required text: all blank 32; first column blank otherwise 33."
 abbrev pub requiredEdits : List ℕ → ℕ → ℕ → List Edit
 requiredEdits line first last = rule 32 first (not (allBlank line first last)) ∷ rule 33 first (not (isIndented line first)) ∷ []
+
+-- FEIN in A and E: "begins with 69 44 (glossary)"; nine zeros "64, right after 44 and before 45"
+abbrev pub feinEdits : ℕ → ℕ → List Edit
+feinEdits fein first = rule 44 first (not (beginsWith69 fein)) ∷ rule 64 first (not (isNineZeros fein)) ∷ []
 
 -- E cease date: "with 282 at 0, not all zeros 50. With 1: zeros 51, no calendar date 48"
 abbrev pub ceaseEdits : Bool → ℕ → ℕ → List Edit
@@ -68,6 +72,6 @@ own marks code ZipCode line first last = record { number = 36; first = first; fi
 own marks code ZipExtension line first last =
     record { number = 37; first = first; finds = extensionTest (regionIn line (marks .state)) line first } ∷ []
 own marks code TaxYear line first last = digitsEdit line first last ∷ rule 38 first (isFilingYear (valueIn line first last)) ∷ []
-own marks code EmployerFein line first last = digitsEdit line first last ∷ rule 44 first (not (beginsWith69 (valueIn line first last))) ∷ []
+own marks code EmployerFein line first last = digitsEdit line first last ∷ feinEdits (valueIn line first last) first
 own marks code IdentityNumber line first last = digitsEdit line first last ∷ rule 52 first (mayBeFiled (valueIn line first last)) ∷ []
 own marks code CeaseDate line first last = digitsEdit line first last ∷ ceaseEdits (isFinal marks line) (valueIn line first last) first

@@ -15,7 +15,7 @@ use Rattle.chars.specs.ColumnLaws.{unless-fine, unless-within}
 use Rattle.chars.specs.declared.columns.Allowed.the-variants.{Digits}
 use Rattle.number.specs.Numbers.{numberIn, valueOf, valueIn}
 use Rattle.number.specs.NumberLaws.{digits-read, number-alike}
-use Rattle.number.specs.Rules.{onlyIf, onlyOwn, yearIn, periodIn, flagIn, feinIn, beginsWith69, identityIn, mayBeFiled}
+use Rattle.number.specs.Rules.{onlyIf, onlyOwn, yearIn, periodIn, flagIn, feinIn, beginsWith69, isNineZeros, identityIn, mayBeFiled}
 
 -- The value of a field is that of its reading.
 pub value-says : (line : List ℕ) (first last : ℕ) → valueIn line first last ≡ valueOf (numberIn line first last)
@@ -31,6 +31,18 @@ only-parts : (passes : ℕ → Bool) (first number : ℕ) (r : Reading)
 only-parts passes first number (value v) = rule-finds (passes v) v first number
 only-parts passes first number (refused column other) = refl
 
+-- A second rule of the value, behind the first.
+second-finds : (t : Bool) (next : ℕ → Bool) (v first number other : ℕ)
+    → findingIn (onlyIf next first other (if t then value v else refused first number)) ≡ orElse (unless t first number) (unless (next v) first other)
+second-finds true next v first number other = rule-finds (next v) v first other
+second-finds false next v first number other = refl
+
+both-parts : (passes next : ℕ → Bool) (first number other : ℕ) (r : Reading)
+    → findingIn (onlyIf next first other (onlyIf passes first number r))
+    ≡ orElse (findingIn r) (orElse (unless (passes (valueOf r)) first number) (unless (next (valueOf r)) first other))
+both-parts passes next first number other (value v) = second-finds (passes v) next v first number other
+both-parts passes next first number other (refused column reason) = refl
+
 module _ (line : List ℕ) (first last : ℕ) (h : first - 1 < last) (w : widthOf first last ≤ 19) where
   parts : (passes : ℕ → Bool) (number : ℕ)
       → findingIn (onlyIf passes first number (numberIn line first last)) ≡ orElse (everyColumn Digits line first last) (unless (passes (valueIn line first last)) first number)
@@ -41,9 +53,13 @@ module _ (line : List ℕ) (first last : ℕ) (h : first - 1 < last) (w : widthO
   unfolding yearIn
   year-parts = parts isFilingYear 38
 
-  pub fein-parts : findingIn (feinIn line first last) ≡ orElse (everyColumn Digits line first last) (unless (not (beginsWith69 (valueIn line first last))) first 44)
-  unfolding feinIn
-  fein-parts = parts (λ fein. not (beginsWith69 fein)) 44
+  pub fein-parts : findingIn (feinIn line first last)
+      ≡ orElse (everyColumn Digits line first last)
+      (orElse (unless (not (beginsWith69 (valueIn line first last))) first 44) (unless (not (isNineZeros (valueIn line first last))) first 64))
+  unfolding feinIn valueIn
+  fein-parts =
+      both-parts (λ fein. not (beginsWith69 fein)) (λ fein. not (isNineZeros fein)) first 44 64 (numberIn line first last)
+      ∙ rw (digits-read line first last h w)
 
   pub identity-parts : findingIn (identityIn line first last) ≡ orElse (everyColumn Digits line first last) (unless (mayBeFiled (valueIn line first last)) first 52)
   unfolding identityIn

@@ -34,8 +34,14 @@ flagIn line column = onlyOwn (λ flag. leb flag 1) column 47 (numberIn line colu
 unfoldable pub beginsWith69 : ℕ → Bool
 beginsWith69 fein = eqb (fein / 10000000) 69
 
+-- (iii) of document 02, "A FEIN of nine zeros": "Refuse it". Nine zeros read as 0.
+unfoldable pub isNineZeros : ℕ → Bool
+isNineZeros fein = eqb fein 0
+
+-- 44, and "64, right after 44"
 unfoldable pub feinIn : List ℕ → ℕ → ℕ → Reading
-feinIn line first last = onlyIf (λ fein. not (beginsWith69 fein)) first 44 (numberIn line first last)
+feinIn line first last =
+    onlyIf (λ fein. not (isNineZeros fein)) first 64 (onlyIf (λ fein. not (beginsWith69 fein)) first 44 (numberIn line first last))
 
 abbrev pub isFromTo : ℕ → ℕ → ℕ → Bool
 isFromTo first last n = leb first n && leb n last

@@ -4,7 +4,7 @@ use reason::Reason;
 ghost use mathlib.Core.Path.{_≡_};
 ghost use Rattle.chars.specs.Characters.{capitals};
 ghost use Rattle.number.specs.Numbers.{readingOf};
-ghost use Rattle.number.specs.Rules.{yearIn, periodIn, flagIn, beginsWith69, feinIn, isFromTo, areIssued, fourthAndFifth, mayBeFiled, identityIn};
+ghost use Rattle.number.specs.Rules.{yearIn, periodIn, flagIn, beginsWith69, isNineZeros, feinIn, isFromTo, areIssued, fourthAndFifth, mayBeFiled, identityIn};
 
 pub fn read_year(line: &[u8], first: u16, last: u16) -> Number
     ensures { λ r. ⌜ readingOf r ≡ yearIn (capitals (now (line .entry))) first last ⌝ }
@@ -51,6 +51,12 @@ fn begins_with_69(fein: u64) -> bool
     fein / 10000000 == 69
 }
 
+fn is_nine_zeros(fein: u64) -> bool
+    ensures { λ r. ⌜ r ≡ isNineZeros fein ⌝ }
+{
+    fein == 0
+}
+
 pub fn read_fein(line: &[u8], first: u16, last: u16) -> Number
     ensures { λ r. ⌜ readingOf r ≡ feinIn (capitals (now (line .entry))) first last ⌝ }
 {
@@ -60,6 +66,9 @@ pub fn read_fein(line: &[u8], first: u16, last: u16) -> Number
     };
     if begins_with_69(fein) {
         return Number::Refused(first, Reason::FeinPrefix);
+    }
+    if is_nine_zeros(fein) {
+        return Number::Refused(first, Reason::FeinZero);
     }
     n
 }

@@ -2,8 +2,8 @@
 ghost use mathlib.Core.Path.{_≡_};
 ghost use Rattle.reason.specs.Numbers.{numberOf, reasonOf, isListed};
 
-// One reason for each number of the paper's table. The number of a reason is `number_of`, and `reason_of` the way back: nothing else goes by cases on
-// the reasons.
+// One reason for each number of the paper's table, and for 64 of document 02. The number of a reason is `number_of`, and `reason_of` the way back:
+// nothing else goes by cases on the reasons.
 pub enum Reason {
     // 1: A line's length is not the record's.
     LineLength,
@@ -111,6 +111,8 @@ pub enum Reason {
     IdTableFull,
     // 63: The employer list is full.
     EmployerListFull,
+    // 64: FEIN of nine zeros.
+    FeinZero,
     // 70: Bad quarter at opening.
     BadQuarter,
     // 71: Line or end after acceptance.
@@ -202,6 +204,7 @@ pub fn number_of(reason: Reason) -> u8
         Reason::TooManyS => 61,
         Reason::IdTableFull => 62,
         Reason::EmployerListFull => 63,
+        Reason::FeinZero => 64,
         Reason::BadQuarter => 70,
         Reason::WalkEnded => 71,
         Reason::StateUnfit => 72,
@@ -272,6 +275,7 @@ pub fn reason_of(number: u64) -> Reason
         61 => Reason::TooManyS,
         62 => Reason::IdTableFull,
         63 => Reason::EmployerListFull,
+        64 => Reason::FeinZero,
         70 => Reason::BadQuarter,
         71 => Reason::WalkEnded,
         72 => Reason::StateUnfit,

@@ -69,7 +69,7 @@ stays number walk = record { says = notice number 0 0; taken = 0; walk = walk; c
 abbrev pub again : Notice → Walk → Moved
 again says walk = record { says = says; taken = 0; walk = walk; change = if eqb (says .number) 70 then Nothing else Clear }
 
--- "A refusal from 1 to 63 .. zeroes both, ends the walk". The line is the one behind those read.
+-- "A refusal from 1 to 63, or a later number for an edit of a record, zeroes both, ends the walk". The line is the one behind those read.
 abbrev pub refuses : Walk → ℕ → ℕ → Moved
 refuses walk column number =
     record {

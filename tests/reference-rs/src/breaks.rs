@@ -619,13 +619,17 @@ fn quarters_of_e_and_s(list: &mut List) {
     }
 }
 
-/// 44 to 46.
+/// 44 to 46, and 64.
 fn feins(list: &mut List) {
     for letter in *b"AE" {
         list.in_line(44, letter, "FEIN with 69", |rng, line| {
             let below = rng.below(10_000_000);
             let fein = 690_000_000 + rng.pick(&[0, 9_999_999, below]);
             line.put_number(6, 14, fein);
+            Some(6)
+        });
+        list.in_line(64, letter, "FEIN of nine zeros", |_, line| {
+            line.put(6, b"000000000");
             Some(6)
         });
     }
@@ -645,8 +649,8 @@ fn feins(list: &mut List) {
         list.in_line(46, letter, "another FEIN", move |rng, line| {
             let own = line.value(first, first + 8);
             let far = rng.below(1_000_000_000);
-            let other =
-                rng.pick(&[own + 1, own ^ 1, own + 100_000_000, 690_000_000, far]) % 1_000_000_000;
+            let other = rng.pick(&[own + 1, own ^ 1, own + 100_000_000, 690_000_000, 0, far])
+                % 1_000_000_000;
             if other == own {
                 return None;
             }
@@ -881,7 +885,7 @@ mod tests {
             70 => 0,
             number @ 1..=4 => number,
             10..=20 => 5,
-            30..=60 => 6,
+            30..=60 | 64 => 6,
             _ => 7,
         };
         let letter = match draft.lines.get(refusal.line.wrapping_sub(1) as usize) {
@@ -892,7 +896,12 @@ mod tests {
         let mut fields = fields_of(letter).iter();
         let field = fields.find(|f| f.first <= column && column <= f.last);
         let first = field.map_or(1, |f| f.first);
-        (refusal.line, step, first, refusal.number, column)
+        // "64, right after 44 and before 45"
+        let number = match refusal.number {
+            64 => 2 * 44 + 1,
+            number => 2 * number,
+        };
+        (refusal.line, step, first, number, column)
     }
 
     /// The places and columns where two drafts of as many lines differ; none if they have not.
@@ -934,6 +943,10 @@ mod tests {
         if first.number == 32 && (left.0, left.2) == (right.0, right.2) {
             return None;
         }
+        // Digits put into one field twice make a third number.
+        if first.number.min(second.number) >= 38 && (left.0, left.2) == (right.0, right.2) {
+            return None;
+        }
         Some((once, twice, [first, second]))
     }
 
@@ -959,7 +972,7 @@ mod tests {
     #[test]
     fn every_reason_has_a_break() {
         let numbers: HashSet<u8> = all().iter().map(|one| one.number).collect();
-        let wanted = (1..=8).chain(10..=20).chain(30..=60).chain([70]);
+        let wanted = (1..=8).chain(10..=20).chain(30..=60).chain([64, 70]);
         assert!(wanted.into_iter().all(|number| numbers.contains(&number)));
     }
 }

@@ -443,11 +443,11 @@ pub fn address_in_province(rng: &mut Rng) -> Address {
     }
 }
 
-/// A FEIN that does not begin with 69.
+/// A FEIN that does not begin with 69 and is not nine zeros.
 pub fn random_fein(rng: &mut Rng) -> u64 {
     loop {
         let fein = rng.below(1_000_000_000);
-        if fein / 10_000_000 != 69 {
+        if fein / 10_000_000 != 69 && fein != 0 {
             return fein;
         }
     }

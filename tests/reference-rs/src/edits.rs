@@ -384,10 +384,12 @@ fn period(record: &Record, field: &Field, before: &dyn Before) -> Finding {
     refuse_if(month != before.quarter_of_a().month, 43, field.first)
 }
 
-/// "FEIN in A and E: begins with 69 44 (glossary)."
+/// "FEIN in A and E: begins with 69 44 (glossary)." Document 02 (iii), a FEIN of nine zeros: "64,
+/// right after 44 and before 45, at the field's first column".
 fn fein_of_a_or_e(record: &Record, field: &Field) -> Result<u64, Broken> {
     let fein = record.number(field)?;
     refuse_if(record.field(field).starts_with(b"69"), 44, field.first)?;
+    refuse_if(record.field(field) == b"000000000", 64, field.first)?;
     Ok(fein)
 }
 

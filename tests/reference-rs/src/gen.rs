@@ -330,8 +330,8 @@ mod tests {
         let promised = |count, options| Cases::new(1, count, options).promised();
         let usual = Options::default();
         assert_eq!(promised(19_999, usual), []);
-        // Acceptance, 8 + 11 + 34 numbers and 70, but for 61.
-        assert_eq!(promised(20_000, usual).len(), 54);
+        // Acceptance, 8 + 11 + 35 numbers and 70, but for 61.
+        assert_eq!(promised(20_000, usual).len(), 55);
         let long = Options {
             long: true,
             ..usual

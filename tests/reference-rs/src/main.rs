@@ -1,6 +1,6 @@
 //! An independent reference for the wage file acknowledgement. Its rules are read from the paper
-//! (document 01), the source document 000 and the readings in docs/DECISIONS.md. It shares no code
-//! and no table with the product.
+//! (document 01), the requests of document 02 that docs/changes names, the source document 000 and
+//! the readings in docs/DECISIONS.md. It shares no code and no table with the product.
 //!
 //! - `reference ack`: the whole input on standard input to the frames on standard output.
 //! - `reference cases SEED COUNT INPUTS EXPECTED [--small] [--all-bytes]`: writes COUNT inputs and

@@ -171,7 +171,7 @@ fn zero_both(ids: &mut [u32], list: &mut [Entry]) {
     list.fill(Entry::default());
 }
 
-/// "A refusal from 1 to 63 [...] zeroes both, ends the walk".
+/// "A refusal from 1 to 63, or a later number for an edit of a record, zeroes both, ends the walk".
 fn refuse(state: &mut State, ids: &mut [u32], list: &mut [Entry], refusal: Refusal) -> Refusal {
     zero_both(ids, list);
     *state = State::refused(refusal);
@@ -246,9 +246,9 @@ fn unfit_standing(state: &State) -> bool {
     !state.held.may_be_held() || (state.a_is_read() && !may_be_of_a(state.quarter_of_a, state.held))
 }
 
-/// The numbers of the table that end a walk or its opening.
+/// The numbers of the table that end a walk or its opening, and 64.
 pub fn is_left_by_a_refusal(number: u8) -> bool {
-    matches!(number, 1..=8 | 10..=20 | 30..=63 | 70)
+    matches!(number, 1..=8 | 10..=20 | 30..=64 | 70)
 }
 
 /// 18: "if A's edits pass it: from 2025 on, a quarter's month, not after the one held".

@@ -10,6 +10,7 @@ pub fn add(list: &mut List) {
     identity_numbers_that_repeat(list);
     list.name("feins");
     fein_prefixes(list);
+    feins_of_zeros(list);
     feins_that_repeat(list);
     list.name("flags");
     flags(list);
@@ -102,10 +103,11 @@ fn identity_numbers_that_repeat(list: &mut List) {
 /// 68, 69 and 70 in A and E.
 fn fein_prefixes(list: &mut List) {
     let passing = [
-        "000000000",
+        "000000001",
         "000000069",
         "006900000",
         "069000000",
+        "100000000",
         "600000000",
         "680000000",
         "689999999",
@@ -117,16 +119,39 @@ fn fein_prefixes(list: &mut List) {
     let others = ["690000000", "690000001", "699999999"];
     for fein in passing.into_iter().chain(others) {
         let passes = passing.contains(&fein);
-        let fein = fein.as_bytes();
-        let mut draft = example(Q1, Q1);
-        draft.lines[0].put(6, fein);
-        list.add_if(&draft, passes, refused(44, 1, 6));
+        list.add_if(&with_fein_in_a(fein), passes, refused(44, 1, 6));
+        list.add_if(&with_fein_under_e(fein), passes, refused(44, 2, 6));
+    }
+}
 
+fn with_fein_in_a(fein: &str) -> Draft {
+    let mut draft = example(Q1, Q1);
+    draft.lines[0].put(6, fein.as_bytes());
+    draft
+}
+
+/// Another FEIN in E, S and T.
+fn with_fein_under_e(fein: &str) -> Draft {
+    let mut draft = example(Q1, Q1);
+    for (place, first) in [(1, 6), (2, 147), (3, 147), (4, 13)] {
+        draft.lines[place].put(first, fein.as_bytes());
+    }
+    draft
+}
+
+/// 64 in A and E; in S and T, where it is not the open E's, 46. A digit that is none comes before it.
+fn feins_of_zeros(list: &mut List) {
+    let zeros = "000000000";
+    list.add(&with_fein_in_a(zeros), refused(64, 1, 6));
+    list.add(&with_fein_under_e(zeros), refused(64, 2, 6));
+    for (place, first) in [(2, 147), (3, 147), (4, 13)] {
         let mut draft = example(Q1, Q1);
-        for (place, first) in [(1, 6), (2, 147), (3, 147), (4, 13)] {
-            draft.lines[place].put(first, fein);
-        }
-        list.add_if(&draft, passes, refused(44, 2, 6));
+        draft.lines[place].put(first, zeros.as_bytes());
+        list.add(&draft, refused(46, place as u64 + 1, first as u64));
+    }
+    for (fein, column) in [("00000000 ", 14), ("O00000000", 6), ("         ", 6)] {
+        list.add(&with_fein_in_a(fein), refused(30, 1, column));
+        list.add(&with_fein_under_e(fein), refused(30, 2, column));
     }
 }
 
@@ -144,9 +169,9 @@ fn feins_that_repeat(list: &mut List) {
     add(&[1, 1], refused(45, 4, 6));
     add(&[1, 2, 1], refused(45, 6, 6));
     add(&[1, 2, 2], refused(45, 6, 6));
-    add(&[0, 0], refused(45, 4, 6));
-    add(&[1, 2, 0], Meant::Accepted);
-    add(&[0, 1, 0], refused(45, 6, 6));
+    add(&[0, 0], refused(64, 2, 6));
+    add(&[1, 2, 0], refused(64, 6, 6));
+    add(&[1, 0, 1], refused(64, 4, 6));
     // "nor with A's FEIN"
     add(&[123_456_789], Meant::Accepted);
 }

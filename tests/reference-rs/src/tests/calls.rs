@@ -132,7 +132,7 @@ fn numbers_of_refused_walks() {
     for number in 0..=255 {
         let left = (1..=8).contains(&number)
             || (10..=20).contains(&number)
-            || (30..=63).contains(&number)
+            || (30..=64).contains(&number)
             || number == 70;
         let (mut state, _, _) = e_open();
         state.standing = Standing::Refused(Refusal::new(number, 3, 4));
@@ -148,7 +148,7 @@ fn numbers_of_refused_walks() {
 /// nothing".
 #[test]
 fn refused_walks() {
-    for number in [1, 63, 70] {
+    for number in [1, 63, 64, 70] {
         let (mut state, mut ids, mut list) = e_open();
         let refusal = Refusal::new(number, 3, 4);
         state.standing = Standing::Refused(refusal);

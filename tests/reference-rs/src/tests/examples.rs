@@ -78,7 +78,7 @@ fn entries_in_file_order() {
             employees: Vec::new(),
         },
         Employer {
-            fein: 0,
+            fein: 6,
             employees: vec![(7, MOST_WAGES)],
         },
     ];
@@ -87,7 +87,7 @@ fn entries_in_file_order() {
         entries: vec![
             entry(900_000_000, 2, 123),
             entry(5, 0, 0),
-            entry(0, 1, MOST_WAGES),
+            entry(6, 1, MOST_WAGES),
         ],
         s_count: 3,
         e_count: 3,
@@ -161,6 +161,18 @@ fn g_fein() {
         draft.lines[3].put(147, fein);
         draft.lines[4].put(13, fein);
         assert_eq!(number_of(&draft), number);
+    }
+}
+
+/// Document 02 (iii), a FEIN of nine zeros: 64 in A and E; in S and T it is not the open E's.
+#[test]
+fn nine_zeros() {
+    let zeros = b"000000000";
+    for (line, column, number) in [(1, 6, 64), (2, 6, 64), (3, 147, 46), (5, 13, 46)] {
+        assert_eq!(
+            outcome(&with(line, column, zeros).input()),
+            refused(number, line as u64, column as u64)
+        );
     }
 }
 

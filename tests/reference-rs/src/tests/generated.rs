@@ -23,7 +23,7 @@ fn generated_cases() {
     };
     let cases = Cases::new(3, 20_000, options);
     let promised = cases.promised();
-    assert_eq!(promised.len(), 52);
+    assert_eq!(promised.len(), 53);
     let mut tally = Tally::default();
     for (k, case) in cases.enumerate() {
         tally.count(&case, &outcome(&case.input));
@@ -83,7 +83,7 @@ fn most_employers() {
         fein,
         employees: Vec::new(),
     };
-    let employers: Vec<Employer> = (0..65_537).map(employ).collect();
+    let employers: Vec<Employer> = (1..=65_537).map(employ).collect();
     let room = Room {
         ids: 0,
         employers: 70_000,
