@@ -1,3 +1,4 @@
 pub mod Quarters
 pub mod Dates
 pub mod Laws
+pub mod MonthRule

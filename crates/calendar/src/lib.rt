@@ -7,9 +7,6 @@ const FIRST_YEAR: u64 = 2025;
 
 const LAST_YEAR: u64 = 9999;
 
-// The days of each month in a common year, by the month's number. Only `month_days` reads it.
-const MONTH_DAYS: [u64; 13] = [0, 31, 28, 31, 30, 31, 30, 31, 31, 30, 31, 30, 31];
-
 // A quarter: its year and its last month.
 pub struct Quarter {
     pub year: u64,
@@ -76,14 +73,21 @@ fn is_leap(year: u64) -> bool
     year % 4 == 0
 }
 
-// A month's days in a common year, 0 for a number that is no month.
+// A month's days in a common year, 0 for a number that is no month. By rule: 31 and 30 take turns from January on, and anew from August on; February has
+// 28.
 fn month_days(month: u64) -> u64
     ensures { λ r. ⌜ r ≡ monthDays month ⌝ }
 {
     if 12 < month {
         return 0;
     }
-    MONTH_DAYS[month as usize]
+    if month < 1 {
+        return 0;
+    }
+    if month == 2 {
+        return 28;
+    }
+    30 + (month + month / 8) % 2
 }
 
 fn days_in(month: u64, year: u64) -> u64
