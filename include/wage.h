@@ -29,7 +29,7 @@ typedef struct wage_employer {
 
 /* Every call but wage_field_text and wage_field_first returns a number: 0 if all is well, else that of the refusal.
  *
- *   1 to 64   the file is refused: docs/REASONS.md has every number
+ *   1 to 65   the file is refused: docs/REASONS.md has every number
  *   70        year and month are no last closed quarter
  *   71        a line or the end after acceptance; nothing changed
  *   72        the state is unfit: words that tell no walk, numbers that no walk has, or more in use than the tables lent hold; nothing changed
@@ -90,7 +90,7 @@ enum {
 
 /* The tables. `ids` has room for the identity numbers under one employer (a zero one takes none), `list` for the employers of the file: at most
  * 65,536 are taken. No room for one more is refusal 62 or 63. A call may be lent tables of another length than the call before, as long as they hold
- * what is in use (else 72); their content is the caller's to keep. A refusal from 1 to 64 zeroes every entry of both, again with each later line or
+ * what is in use (else 72); their content is the caller's to keep. A refusal from 1 to 65 zeroes every entry of both, again with each later line or
  * end call; behind acceptance `list` holds the employers in file order, then zeros, and `ids` zeros. */
 
 /* Opens a walk for the last closed quarter, year 2025 to 9999 and month 3, 6, 9 or 12: zeroes both tables and fills the state. 70 for another

@@ -13,11 +13,11 @@ import tempfile
 
 import c_programs
 from c_programs import ROOT
+from program_answers import EARLIER, QUARTER
 
 EXAMPLES = os.path.join(ROOT, "examples")
 HEADER = os.path.join(ROOT, "include", "wage.h")
 RUST = os.path.join(ROOT, "tests", "rust-exports")
-QUARTER = "202606"
 # Files of the reference that go through the Rust crate.
 REFERENCE_FILES = 2000
 
@@ -65,7 +65,7 @@ def examples(acknowledge):
     names = sorted(name[:-4] for name in os.listdir(EXAMPLES) if name.endswith(".txt"))
     check("there are examples", len(names) >= 5)
     for name in names:
-        done = run(*acknowledge, QUARTER, os.path.join(EXAMPLES, name + ".txt"))
+        done = run(*acknowledge, EARLIER.get(name, QUARTER), os.path.join(EXAMPLES, name + ".txt"))
         status = 0 if name.startswith("accepted") else 1
         check("examples/%s in C: %r" % (name, done), (done.returncode, done.stdout) == (status, read("examples", name + ".frames")))
         check("a refusal is told in words", (b"refused: number" in done.stderr) == (status == 1))
@@ -79,7 +79,7 @@ def examples(acknowledge):
 
 
 def written_file(write_file, acknowledge):
-    """The file that the C example writes, A, E and S built and T and F written, is accepted."""
+    """The file that the C example writes, A, E and S built and T and F written, is accepted by the C example that reads it and by the program."""
     done = run(*write_file)
     lines = done.stdout.split(b"\n")
     check("examples/c/write_file.c: %r" % done, (done.returncode, [line[:1] for line in lines]) == (0, [*WRITTEN, b""]))
@@ -87,8 +87,9 @@ def written_file(write_file, acknowledge):
     with tempfile.NamedTemporaryFile() as file:
         file.write(done.stdout)
         file.flush()
-        done = run(*acknowledge, QUARTER, file.name)
-    check("it is accepted: %r" % done, (done.returncode, done.stdout) == (0, WRITTEN_FRAMES))
+        for reader in (acknowledge, (os.path.join(ROOT, "wage-ack"),)):
+            done = run(*reader, QUARTER, file.name)
+            check("%s accepts it: %r" % (reader, done), (done.returncode, done.stdout) == (0, WRITTEN_FRAMES))
     with open("/dev/full", "wb") as full:
         done = subprocess.run(write_file, stdout=full, stderr=subprocess.PIPE)
         check("a full device: %r" % done, done.returncode == 1)

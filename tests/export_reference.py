@@ -8,7 +8,7 @@ from walk_reference import ACCEPTED, AFTER_T, E_OPEN, REFUSED, Reply, State
 WORDS = 17
 EMPLOYERS = 14
 # the numbers of refusals in the papers, 84 and 85 those of document 02
-LISTED = {*range(1, 9), *range(10, 21), *range(30, 64), *range(70, 73), *range(80, 86)}
+LISTED = {*range(1, 9), *range(10, 21), *range(30, 66), *range(70, 73), *range(80, 86)}
 MOST_LINE, MOST_COLUMN = 2**32 - 1, 2**16 - 1
 UNFIT = State(stage=REFUSED, number=72)
 

@@ -42,6 +42,8 @@ def answer(test, a, b, text):
     elif test in (40, 41, 42, 43):
         holds = {40: ref.is_date, 41: ref.in_quarter, 42: ref.allowed, 43: ref.after}[test](text)
         found = (0, 0, int(holds))
+    elif test == 44:
+        found = (0, 0, ref.timing_of(text))
     elif test == 50:
         found = ref.cut(text, a)
     elif test == 51:
@@ -124,6 +126,15 @@ def addresses():
             yield 33, 3, 0, code + e
 
 
+def around(held):
+    """The quarters beside a last closed one, as six digits: two before it and three behind it, and its own month a year before and behind it."""
+    year, month = int(held[:4]), int(held[4:])
+    for steps in (-4, -2, -1, 0, 1, 2, 3, 4):
+        count = year * 4 + month // 3 - 1 + steps
+        if count < 40000:
+            yield "%04d%02d" % (count // 4, count % 4 * 3 + 3)
+
+
 def dates(pick):
     for year in (0, 1, 4, 100, 400, 1900, 2000, 2024, 2025, 2026, 2027, 2028, 2100, 9996, 9999):
         for month in (0, 1, 2, 4, 9, 11, 12, 13):
@@ -145,6 +156,9 @@ def dates(pick):
     for a in quarters:
         for b in quarters:
             yield 43, 0, 0, a + b
+    for held in ("202503", "202603", "202606", "202609", "202612", "999906", "999909", "999912"):
+        for quarter in around(held):
+            yield 44, 0, 0, held + quarter
 
 
 def cuts():

@@ -23,7 +23,7 @@ BUILT = os.path.join(ROOT, "target", "reference-rs")
 RUN = os.path.join(ROOT, "tools", "run-program")
 
 FIXED_SEED = 1
-FIXED_CASES, DRAWN_CASES = 20000, 4000
+FIXED_CASES, DRAWN_CASES = 22000, 4000
 # A file that breaks 61 has more than 100,000 lines, so there are few of them and they are piped.
 LONG_CASES = 40
 SCRIPT_CALLS = 9000

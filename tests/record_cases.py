@@ -83,13 +83,14 @@ def rule(letter, name, a, b, text, c):
         if v < 2025:
             return 38
         if letter == "A":
-            return 39 if v > c["held"][0] else 0
+            # the first quarter of a year beyond the current quarter's is later than that one
+            return 39 if ref.timing(c["held"], (v, 3)) == ref.LATER else 0
         return 0 if v == c["filed"][0] else 42
     if name == "PERIOD":
         if ref.read_period(text, a, b)[0]:
             return 40
         if letter == "A":
-            return 41 if (ref.number_or_zero(text, 2, 5), v) > c["held"] else 0
+            return 41 if ref.timing(c["held"], (ref.number_or_zero(text, 2, 5), v)) == ref.LATER else 0
         return 0 if v == c["filed"][1] else 43
     if name == "EMPLOYER_FEIN":
         if text[a - 1:a + 1] == "69":
@@ -98,7 +99,9 @@ def rule(letter, name, a, b, text, c):
             return 64
         return 0 if letter == "A" else 45 if c["seen_fein"] else 63 if c["list_full"] else 0
     if name == "FLAG" or (name == "THIRD_QUARTER_FLAG" and text[187:189] == "09"):
-        return 0 if text[a - 1] in "01" else 47
+        if text[a - 1] not in "01":
+            return 47
+        return 65 if a == 282 and text[281] == "0" and ref.timing(c["held"], c["filed"]) == ref.CURRENT else 0
     if name == "ENTITY_CODE":
         return 0 if text[a - 1:b] == "PFML" else 34
     if name == "STATE_CODE":
@@ -171,7 +174,7 @@ def good_record(letter, c, pick):
         text = fill(text, ((2, year), (6, "%09d" % c["fein"])) + address + (
             (149, "-1061"), (167, "PFML"), (187, "0"), (188, month), (190, "1"), (191, "1" if month == "09" else pick.choice("01x")), (201, "JO"),
             (231, "A@B"), (261, "2075551212"), (282, "000000000")))
-        if pick.random() < 0.4:
+        if pick.random() < (0.85 if ref.timing(c["held"], c["filed"]) == ref.CURRENT else 0.4):
             text = put(text, 282, "1%02d15" % (c["filed"][1] - pick.randrange(3)) + year)
         if pick.random() < 0.3:
             text = fill(text, ((139, "ON"), (149, "B1   "), (154, "K1A 0")))
@@ -204,14 +207,25 @@ def damaged(text, letter, pick):
     return put(text, a, "%0*d" % (b - a + 1, pick.randrange(10 ** min(6, b - a + 1))))
 
 
+def quarter_behind(held, steps):
+    count = held[0] * 4 + held[1] // 3 - 1 + steps
+    return (count // 4, count % 4 * 3 + 3)
+
+
+def quarter_to_file(held, pick):
+    """Often a closed quarter or the current one, at times one behind it; none is of a year that four digits cannot write."""
+    steps = pick.choice((-3, -1, -1, 0, 0, 0, 1, 1, 1, 2 if pick.random() < 0.5 else 0))
+    quarter = quarter_behind(held, steps)
+    return quarter if 2025 <= quarter[0] <= 9999 else held
+
+
 def context(letter, pick):
-    quarters = (3, 6, 9, 12)
-    held = (2026, pick.choice(quarters))
+    held = (pick.choice((2025, 2026, 2026, 2026, 9999)), pick.choice((3, 6, 9, 12)))
     usual = {"A": 0, "E": 1, "S": 2, "T": 2, "F": 3}[letter]
     rare = lambda: int(pick.random() < 0.06)
     return dict(
         phase=usual if pick.random() < 0.85 else pick.randrange(5), held=held,
-        filed=(2026, pick.choice([q for q in quarters if q <= held[1]]) if pick.random() < 0.95 else 12),
+        filed=quarter_to_file(held, pick),
         fein=pick.choice((12345678, 700000000, 5)), follow=1 - rare(), count=pick.choice((0, 1, 3, 3)), sum=pick.randrange(10**6),
         all_count=pick.choice((99999, 100000)) if pick.random() < 0.1 else 7, employers=2, all_sum=pick.randrange(10**9), ids_full=rare(),
         list_full=rare(), seen_fein=rare(), seen_id=rare())
@@ -251,6 +265,29 @@ def zero_feins(pick):
         yield c, fill(good_record(letter, c, pick), ((FEIN_AT[letter], fein), *changes)) + "\n"
 
 
+def current_quarters(pick):
+    """A under each last closed quarter: of that quarter, of the current one, of the one behind it and of the year beyond. E, in a file of a closed quarter, of
+    the current one and of a later one: a final return and one that is not, flags that are none, and 65 beside the fields before and behind it."""
+    for held in ((2026, 3), (2026, 9), (2026, 12), (9999, 9), (9999, 12), (2025, 12)):
+        for steps in (0, 1, 2, 5 if held[1] == 12 else 4):
+            quarter = quarter_behind(held, steps)
+            if quarter[0] <= 9999:
+                c = dict(CALM, phase=0, held=held, filed=quarter)
+                yield c, good_record("A", c, pick) + "\n"
+    no, may, march = "000000000", "105312026", "103312026"
+    for held, *changes in (
+            ((2026, 3), (282, no)), ((2026, 3), (282, may)), ((2026, 3), (282, march)), ((2026, 3), (282, "2")), ((2026, 3), (282, "x" + may[1:])),
+            ((2026, 3), (282, "0" + may[1:])), ((2026, 3), (282, "100000000")), ((2026, 3), (282, no), (231, " ")), ((2026, 3), (282, no), (283, " ")),
+            ((2026, 6), (282, no)), ((2026, 6), (282, may)), ((2025, 12), (282, no)), ((9999, 12), (282, no))):
+        c = dict(CALM, phase=1, held=held, filed=(2026, 6))
+        yield c, fill(good_record("E", c, pick), changes) + "\n"
+    for held, filed in (((2026, 12), (2027, 3)), ((9999, 9), (9999, 12)), ((9999, 12), (9999, 12))):
+        for flag in "01":
+            c = dict(CALM, phase=1, held=held, filed=filed)
+            date = "%02d01%04d" % (filed[1], filed[0]) if flag == "1" else "00000000"
+            yield c, put(good_record("E", c, pick), 282, flag + date) + "\n"
+
+
 def lines_by_chance(pick):
     while True:
         letter = pick.choice(LETTERS)
@@ -270,7 +307,7 @@ def made(seed):
     pick = random.Random(seed)
     given, told = [], []
     size = 0
-    for c, data in itertools.chain(identity_lines(), zero_feins(pick), lines_by_chance(pick)):
+    for c, data in itertools.chain(identity_lines(), zero_feins(pick), current_quarters(pick), lines_by_chance(pick)):
         case = header(c) + data + "#"
         size += len(case)
         if size > ROOM:

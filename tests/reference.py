@@ -185,6 +185,22 @@ def after(text):
     return a > b
 
 
+CLOSED, CURRENT, LATER = range(3)
+
+
+def timing(held, quarter):
+    """Document 02 (v): "The current quarter is the one right after the last closed; after 12 of 9999 there is none." Quarters are counted here."""
+    steps = (quarter[0] - held[0]) * 4 + (quarter[1] - held[1]) // 3
+    if steps <= 0:
+        return CLOSED
+    return CURRENT if steps == 1 and held != (9999, 12) else LATER
+
+
+def timing_of(text):
+    held = (number_or_zero(text, 1, 4), number_or_zero(text, 5, 6))
+    return timing(held, (number_or_zero(text, 7, 10), number_or_zero(text, 11, 12)))
+
+
 def cut(text, n):
     """The first line of a text in which / stands for LF and \\ for CR: (number, column, bytes taken)."""
     data = text.replace("/", "\n").replace("\\", "\r")

@@ -24,7 +24,7 @@ LONG = 65540
 # what is told for a word of the answer that is not lent
 UNTOLD = 999
 # the numbers that S can put into a refused state; another is read as the last
-NUMBERS = (1, 44, 63, 64, 70, 71, 72, 80, 83)
+NUMBERS = (1, 44, 63, 64, 65, 70, 71, 72, 80, 83)
 # the digit columns of each command, by their widths, in order from the second character on
 STATE = (("stage", 1), ("number", 2), ("line", 10), ("column", 5), ("lines", 10), ("held_year", 5), ("held_month", 2), ("filed_year", 5),
          ("filed_month", 2), ("fein", 10), ("follow", 1), ("count", 10), ("sum", 19), ("all_count", 10), ("employers", 10), ("all_sum", 19), ("used", 10))
@@ -245,13 +245,15 @@ def a_record(quarter=QUARTER):
     return filled("A", (2, "%04d" % quarter[0]), (6, "012345678"), (15, "PFML"), (19, "%02d" % quarter[1]), *ADDRESS, (164, "JO"), (194, "2075551212"))
 
 
-def e_record(fein=FEIN, follow=1):
-    return filled("E", (2, "2026"), (6, "%09d" % fein), *ADDRESS, (167, "PFML"), (187, "003%d" % follow), (201, "JO"), (231, "A@B"), (261, "2075551212"),
-                  (282, "000000000"))
+def e_record(fein=FEIN, follow=1, quarter=QUARTER, closure="000000000"):
+    flags = "0%02d%d%s" % (quarter[1], follow, "0" if quarter[1] == 9 else " ")
+    return filled("E", (2, "%04d" % quarter[0]), (6, "%09d" % fein), *ADDRESS, (167, "PFML"), (187, flags), (201, "JO"), (231, "A@B"), (261, "2075551212"),
+                  (282, closure))
 
 
-def s_record(identity, wages, fein=FEIN):
-    return filled("S", (2, "%09d" % identity), (11, "O'NEIL-ROY"), (31, "ANNE"), (46, "032026"), (64, "%014d" % wages), (143, "PFML"), (147, "%09d" % fein))
+def s_record(identity, wages, fein=FEIN, quarter=QUARTER):
+    return filled("S", (2, "%09d" % identity), (11, "O'NEIL-ROY"), (31, "ANNE"), (46, "%02d%04d" % (quarter[1], quarter[0])), (64, "%014d" % wages),
+                  (143, "PFML"), (147, "%09d" % fein))
 
 
 def t_record(count, cents, fein=FEIN):
@@ -406,7 +408,9 @@ def bounds(w):
             ((BEFORE_A, E_OPEN), dict(held=(2024, 12), filed=(2024, 12)), dict(held=(2025, 3), filed=(2025, 3))),
             ((BEFORE_A, ACCEPTED), dict(held=(10000, 3)), dict(held=(9999, 12))),
             ((BEFORE_A,), dict(held=(2026, 7)), dict(held=(2026, 9))),
-            ((AFTER_A, E_OPEN), dict(filed=(2026, 9)), dict(filed=HELD)),
+            ((AFTER_A, E_OPEN), dict(filed=(2026, 12)), dict(filed=(2026, 9))),
+            ((AFTER_T,), dict(held=(2026, 12), filed=(2027, 6)), dict(held=(2026, 12), filed=(2027, 3))),
+            ((ACCEPTED,), dict(held=(9999, 12), filed=(10000, 3)), dict(held=(9999, 9), filed=(9999, 12))),
             ((AFTER_T,), dict(filed=(2024, 12)), dict(filed=(2025, 3))),
             ((AFTER_F,), dict(filed=(2027, 3)), dict(filed=(2025, 12))),
             ((ACCEPTED,), dict(filed=(2026, 4)), dict(filed=QUARTER))):
@@ -481,6 +485,32 @@ def nine_zeros(w):
             w.state(standing(E_OPEN, fein=fein))
             w.lines(text)
     w.whole(HELD, joined(a_record(), e_record(0), s_record(111111111, 7, 0), t_record(1, 7, 0), f_record(1, 1, 7)))
+
+
+# The quarter behind HELD, which is the current one, and a closure in it.
+CURRENT, IN_AUGUST = (2026, 9), "108312026"
+
+
+def closing(w):
+    """65, with content in the tables, and called again, before 50 and behind 47; two employers of the current quarter, both closing, and one of them not;
+    A under 12 of a year, of the year behind it and of the one after that."""
+    w.lent = (2, 2)
+    w.open(HELD)
+    w.lines(a_record(CURRENT))
+    content(w)
+    w.lines(e_record(quarter=CURRENT))
+    content(w)
+    w.lines(e_record(quarter=CURRENT, closure=IN_AUGUST))
+    content(w)
+    w.end()
+    for filed, closure in ((CURRENT, "008312026"), (CURRENT, "208312026"), (CURRENT, IN_AUGUST), (HELD, "000000000"), ((2026, 12), "000000000")):
+        w.state(standing(AFTER_T, filed=filed, employers=0))
+        w.lines(e_record(quarter=filed, closure=closure))
+    first = (a_record(CURRENT), e_record(5, 0, CURRENT, IN_AUGUST), t_record(0, 0, 5))
+    for closure in (IN_AUGUST, "000000000"):
+        w.whole(HELD, joined(*first, e_record(7, 1, CURRENT, closure), s_record(8, 9, 7, CURRENT), t_record(1, 9, 7), f_record(1, 2, 9)))
+    for held, quarter in (((2026, 12), (2027, 3)), ((2026, 12), (2027, 6)), ((2026, 12), (2028, 3)), ((9999, 12), (9999, 12)), ((9999, 9), (9999, 12))):
+        w.whole(held, joined(a_record(quarter)))
 
 
 def totals(w):
@@ -570,7 +600,7 @@ MOST = 2**64 - 1
 def no_walks(w):
     """Words that tell no walk: a standing above 6, numbers that are not listed. Every call answers 72, and every word stays."""
     w.lent = (2, 3)
-    for stage, at, numbers in ((E_OPEN, 0, (7, 256, 2**32, 2**32 + 2, MOST)), (REFUSED, 1, (0, 9, 21, 29, 65, 73, 84, 87, 88, 300, 2**32 + 44, MOST))):
+    for stage, at, numbers in ((E_OPEN, 0, (7, 256, 2**32, 2**32 + 2, MOST)), (REFUSED, 1, (0, 9, 21, 29, 66, 73, 84, 87, 88, 300, 2**32 + 44, MOST))):
         for number in numbers:
             content(w)
             w.state(standing(stage))
@@ -658,7 +688,7 @@ def written(w):
         w.lines(exports.write_call(letter, w.program.st, 290)[1])
 
 
-HAND = (accepted, in_one_slice, line_ends, afterwards, ends, bounds, no_bounds, room, nine_zeros, totals, at_the_bounds, altered, other_lengths, beyond, no_walks,
+HAND = (accepted, in_one_slice, line_ends, afterwards, ends, bounds, no_bounds, room, nine_zeros, closing, totals, at_the_bounds, altered, other_lengths, beyond, no_walks,
         odd_words, lent_short, frames, written)
 
 
@@ -671,7 +701,7 @@ def chance_quarter(pick):
 def chance_record(letter, st, pick):
     c = walk.context(st, "", [], [])
     if letter == "A":
-        c["filed"] = pick.choice((st.held, QUARTER, chance_quarter(pick)))
+        c["filed"] = pick.choice((st.held, QUARTER, records.quarter_behind(st.held, 1), chance_quarter(pick)))
     if letter == "E":
         c["fein"] = pick.choice((0, 5, FEIN, 690000000, 700000000, 5, FEIN))
     text = records.good_record(letter, c, pick)
@@ -810,6 +840,7 @@ EXAMPLE = (A, E, *TWO, t_record(2, 123500), f_record(2, 1, 123500))
 def files_by_hand():
     """What was tried, what the reference says, and what the paper says: its own cases, and files as a whole."""
     small = "".join(text.lower() + "\r\n" for text in EXAMPLE)
+    shut = (a_record(CURRENT), e_record(FEIN, 1, CURRENT, IN_AUGUST), s_record(5, 9, FEIN, CURRENT), t_record(1, 9), f_record(1, 1, 9))
     two = (A, E, s_record(5, 1), t_record(1, 1), e_record(7), s_record(5, 2, 7), t_record(1, 2, 7), f_record(2, 2, 3))
     return (
         ("a. empty file", tried(""), refused(5, 1, 1)),
@@ -827,6 +858,11 @@ def files_by_hand():
         ("a FEIN of nine zeros in E, and no list", tried(joined(A, e_record(0)), 2, 0), refused(64, 2, 6, 2, 0)),
         ("FEIN 000000001", tried(joined(A, e_record(1, 0), t_record(0, 0, 1), F0)), (GOOD, ACCEPTED, [0, 0], [(1, 0, 0), NO_ENTRY])),
         ("nine zeros in S and in T", replies((A, E, s_record(5, 1, 0)), (A, E, *TWO, t_record(2, 123500, 0))), [(46, 3, 147, 0), (46, 5, 13, 0)]),
+        ("a closing employer", tried(joined(*shut)), (GOOD, ACCEPTED, [0, 0], [(FEIN, 1, 9), NO_ENTRY])),
+        ("an employer that does not close", tried(joined(shut[0], e_record(quarter=CURRENT))), refused(65, 2, 282)),
+        ("a closed quarter, final or not", replies((a_record(HELD), e_record(quarter=HELD)), (a_record(HELD), e_record(quarter=HELD, closure="106302026"))),
+         [(7, 3, 1, 0)] * 2),
+        ("the quarter and the year behind the current one", replies((a_record((2026, 12)),), (a_record((2027, 3)),)), [(41, 1, 19, 0), (39, 1, 2, 0)]),
         ("one person, two employers", tried(joined(*two), 1), (GOOD, ACCEPTED, [0], [(FEIN, 1, 1), (7, 1, 2)])),
         ("i. zero twice, and no room", tried(joined(A, E, s_record(0, 1), s_record(0, 1), t_record(2, 2), f_record(2, 1, 2)), 0),
          (GOOD, ACCEPTED, [], [(FEIN, 2, 2), NO_ENTRY])),

@@ -17,7 +17,7 @@ MOST_LINES = 231074
 MOST_WAGES = 99999999999999
 MOST_FEIN = 999999999
 # the numbers that a refusal leaves in the state: those of lines and of the end of the input, and that of a bad quarter
-LEFT = {*range(1, 9), *range(10, 21), *range(30, 65), 70}
+LEFT = {*range(1, 9), *range(10, 21), *range(30, 66), 70}
 NO_ENTRY = (0, 0, 0)
 
 
@@ -57,9 +57,9 @@ def may_be_held(quarter):
 
 
 def may_be_filed(quarter, held):
-    """What A's edits let pass: 38 and 40, 39 and 41."""
+    """What A's edits let pass: 38 and 40, 39 and 41, and so the current quarter too."""
     year, month = quarter
-    return year >= 2025 and month in (3, 6, 9, 12) and tuple(quarter) <= tuple(held)
+    return year >= 2025 and month in (3, 6, 9, 12) and ref.timing(tuple(held), tuple(quarter)) != ref.LATER
 
 
 def open_e_unfit(st, ids):

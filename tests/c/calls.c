@@ -415,7 +415,7 @@ static void frames_written(struct text s)
 // number is read as the last.
 static uint64_t reason(uint64_t number)
 {
-    static const uint64_t known[] = {1, 44, 63, 64, 70, 71, 72, 80, 83};
+    static const uint64_t known[] = {1, 44, 63, 64, 65, 70, 71, 72, 80, 83};
     for (size_t i = 0; i < sizeof known / sizeof *known; i++) {
         if (known[i] == number) {
             return number;

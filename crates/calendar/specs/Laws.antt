@@ -8,8 +8,13 @@ use native.Mathlib.Omega.{arith}
 use lib.Dec.{eqb, leb}
 use borrow.Author.Tests.{eqb-true, ltb-true, ltb-false, lt-ltb, le-ltb, eq-eqb}
 use Rattle.laws.specs.Choice.{both-hold, within}
-use Rattle.calendar.specs.Quarters.{firstYear, lastYear, isQuarterMonth, isFilingYear, isAllowed, isAfter, isReportable}
+use Rattle.calendar.specs.Quarters.{firstYear, lastYear, isQuarterMonth, isFilingYear, isAllowed, isAfter, timingOf, mayReport, isReportable}
 use Rattle.calendar.specs.declared.Quarter.{Quarter}
+
+-- A test that cannot hold fails.
+pub not-true : (t : Bool) → (t ≡ true → ⊥) → t ≡ false
+not-true true h = absurd (h refl)
+not-true false h = refl
 
 -- ---- an allowed quarter
 one-of-four : (a b c d : Bool) → a || b || c || d ≡ true → (a ≡ true) ⊎ (b ≡ true) ⊎ (c ≡ true) ⊎ (d ≡ true)
@@ -57,15 +62,15 @@ module _ (q : Quarter) (t : isAllowed q ≡ true) where
   allowed-month = parts .1
 
 -- ---- a quarter that may be reported
-pub reportable : (held q : Quarter) → isFilingYear (q .year) ≡ true → isQuarterMonth (q .month) ≡ true → isAfter q held ≡ false
+pub reportable : (held q : Quarter) → isFilingYear (q .year) ≡ true → isQuarterMonth (q .month) ≡ true → mayReport (timingOf held q) ≡ true
     → isReportable held q ≡ true
 unfolding isReportable
-reportable held q year month closed = rw (year, month, closed)
+reportable held q year month timely = rw (year, month, timely)
 
 -- ---- "after" is an order
 -- Of a later year, or of the same year and a later month.
-abbrev pub Later : Quarter → Quarter → Type 0
-Later a b = (b .year < a .year) ⊎ ((a .year ≡ b .year) × (b .month < a .month))
+abbrev pub ComesLater : Quarter → Quarter → Type 0
+ComesLater a b = (b .year < a .year) ⊎ ((a .year ≡ b .year) × (b .month < a .month))
 
 later-by : (x y z : Bool) → x || y && z ≡ true → (x ≡ true) ⊎ ((y ≡ true) × (z ≡ true))
 later-by true y z e = inl refl
@@ -77,11 +82,11 @@ not-later-by false true z e = (refl, λ t. e)
 not-later-by false false z e = (refl, λ t. absurd (false≢true t))
 
 module _ (a b : Quarter) where
-  pub after-later : isAfter a b ≡ true → Later a b
+  pub after-later : isAfter a b ≡ true → ComesLater a b
   unfolding isAfter
   after-later t = ⊎-elim (λ y. inl (ltb-true _ _ y)) (λ m. inr (eqb-true _ _ (m .0), ltb-true _ _ (m .1))) (later-by _ _ _ t)
 
-  pub later-after : Later a b → isAfter a b ≡ true
+  pub later-after : ComesLater a b → isAfter a b ≡ true
   unfolding isAfter
   later-after (inl y) = rw (lt-ltb _ _ y)
   later-after (inr m) = rw (le-ltb _ _ (le-of-eq (m .0)), eq-eqb _ _ (m .0), lt-ltb _ _ (m .1))
@@ -106,7 +111,7 @@ neither-after a b s t =
 
 pub after-trans : (a b c : Quarter) → isAfter a b ≡ true → isAfter b c ≡ true → isAfter a c ≡ true
 after-trans a b c s t = later-after a c (trans (after-later a b s) (after-later b c t)) where
-  trans : Later a b → Later b c → Later a c
+  trans : ComesLater a b → ComesLater b c → ComesLater a c
   trans (inl y) (inl z) = inl (omega arith)
   trans (inl y) (inr n) = inl (omega arith)
   trans (inr m) (inl z) = inl (omega arith)

@@ -2,3 +2,4 @@ pub mod Quarters
 pub mod Dates
 pub mod Laws
 pub mod MonthRule
+pub mod CurrentLaws

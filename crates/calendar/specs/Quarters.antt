@@ -1,8 +1,11 @@
--- Quarters: which of them the paper allows, and which of two is the later.
-use Prim.Native.Nat.{ℕ}
-use mathlib.Core.Bool.{Bool, not, _&&_, _||_}
+-- Quarters: which of them the paper allows, which of two is the later, and how one stands to the last closed.
+use Prim.Native.Nat.{ℕ, _+_}
+use mathlib.Core.Bool.{Bool, true, false, _&&_, _||_}
 use lib.Dec.{eqb, leb, ltb}
+use Rattle.laws.specs.Choice.{if_then_else_}
 use Rattle.calendar.specs.declared.Quarter.{Quarter}
+use Rattle.calendar.specs.declared.Timing.{Timing}
+use Rattle.calendar.specs.declared.Timing.the-variants.{Closed, Current, Later}
 
 abbrev pub firstYear : ℕ
 firstYear = 2025
@@ -26,6 +29,34 @@ isAllowed q = isFilingYear (q .year) && leb (q .year) lastYear && isQuarterMonth
 unfoldable pub isAfter : Quarter → Quarter → Bool
 isAfter a b = ltb (b .year) (a .year) || eqb (a .year) (b .year) && ltb (b .month) (a .month)
 
--- "A's quarter": one that A's edits pass under the last closed quarter: from 2025 on, a quarter's month, not after the one held.
+-- Of the same year and the same month.
+unfoldable pub isSame : Quarter → Quarter → Bool
+isSame a b = eqb (a .year) (b .year) && eqb (a .month) (b .month)
+
+-- (v) of document 02: "The current quarter is the one right after the last closed; after 12 of 9999 there is none." The last closed one then stands
+-- in its place, and no quarter after that is the current one.
+unfoldable pub currentQuarter : Quarter → Quarter
+currentQuarter held =
+    if ltb (held .month) 12
+    then record { year = held .year; month = held .month + 3 }
+    else (if ltb (held .year) lastYear then record { year = held .year + 1; month = 3 } else held)
+
+-- "The period test now answers closed, current or later"
+unfoldable pub timingOf : Quarter → Quarter → Timing  -- the last closed quarter, then the one asked for
+timingOf held q = if isAfter q held then (if isSame q (currentQuarter held) then Current else Later) else Closed
+
+-- "41 is for quarters after the current": closed ones and the current one may be reported.
+abbrev pub mayReport : Timing → Bool
+mayReport Closed = true
+mayReport Current = true
+mayReport Later = false
+
+-- "In a current-quarter file every E must be a final return."
+abbrev pub mustBeFinal : Timing → Bool
+mustBeFinal Closed = false
+mustBeFinal Current = true
+mustBeFinal Later = false
+
+-- "A's quarter": one that A's edits pass under the last closed quarter: from 2025 on, a quarter's month, not after the current one.
 unfoldable pub isReportable : Quarter → Quarter → Bool  -- held, then the quarter
-isReportable held q = isFilingYear (q .year) && isQuarterMonth (q .month) && not (isAfter q held)
+isReportable held q = isFilingYear (q .year) && isQuarterMonth (q .month) && mayReport (timingOf held q)

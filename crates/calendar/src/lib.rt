@@ -1,6 +1,6 @@
 // Quarters and calendar dates as numbers. No line is read here.
 ghost use mathlib.Core.Path.{_≡_};
-ghost use Rattle.calendar.specs.Quarters.{isQuarterMonth, isFilingYear, isAllowed, isAfter, isReportable};
+ghost use Rattle.calendar.specs.Quarters.{isQuarterMonth, isFilingYear, isAllowed, isAfter, isSame, currentQuarter, timingOf, isReportable};
 ghost use Rattle.calendar.specs.Dates.{isLeap, monthDays, daysIn, monthOf, dayOf, yearOf, isDate, inQuarter};
 
 const FIRST_YEAR: u64 = 2025;
@@ -11,6 +11,13 @@ const LAST_YEAR: u64 = 9999;
 pub struct Quarter {
     pub year: u64,
     pub month: u64,
+}
+
+// How a quarter stands to the last closed one: it is closed, it is the current one, or it is later than that.
+pub enum Timing {
+    Closed,
+    Current,
+    Later,
 }
 
 // Whether a quarter ends with this month.
@@ -52,13 +59,58 @@ pub fn is_after(a: Quarter, b: Quarter) -> bool
     b.year < a.year
 }
 
+fn is_same(a: Quarter, b: Quarter) -> bool
+    ensures { λ r. ⌜ r ≡ isSame a b ⌝ }
+{
+    if a.year == b.year {
+        return a.month == b.month;
+    }
+    false
+}
+
+// The current quarter, which is the one right after the last closed; that one itself where none is after it.
+pub fn current_quarter(held: Quarter) -> Quarter
+    ensures { λ r. ⌜ r ≡ currentQuarter held ⌝ }
+{
+    if held.month < 12 {
+        return Quarter {
+            year: held.year,
+            month: held.month + 3,
+        };
+    }
+    if held.year < LAST_YEAR {
+        return Quarter {
+            year: held.year + 1,
+            month: 3,
+        };
+    }
+    held
+}
+
+// The period test: how a quarter stands to the last closed one, which is `held`.
+pub fn timing_of(held: Quarter, q: Quarter) -> Timing
+    ensures { λ r. ⌜ r ≡ timingOf held q ⌝ }
+{
+    if is_after(q, held) {
+        if is_same(q, current_quarter(held)) {
+            return Timing::Current;
+        }
+        return Timing::Later;
+    }
+    Timing::Closed
+}
+
 // Whether a quarter may be reported while `held` is the last closed one.
 pub fn is_reportable(held: Quarter, q: Quarter) -> bool
     ensures { λ r. ⌜ r ≡ isReportable held q ⌝ }
 {
     if is_filing_year(q.year) {
         if is_quarter_month(q.month) {
-            return !is_after(q, held);
+            return match timing_of(held, q) {
+                Timing::Closed => true,
+                Timing::Current => true,
+                Timing::Later => false,
+            };
         }
     }
     false

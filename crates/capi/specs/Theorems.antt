@@ -78,7 +78,7 @@ module _ (out : Out) (words answer : List ℕ) (has : Called) (room : wordCount 
 abbrev Stands : Walk → Moved → Type 0
 Stands walk m = isStill (m .says .number) ≡ true → m .walk ≡ walk
 
-edit-moves : (number : ℕ) → (1 ≤ number) × (number ≤ 64) → isStill number ≡ true → ⊥
+edit-moves : (number : ℕ) → (1 ≤ number) × (number ≤ 65) → isStill number ≡ true → ⊥
 edit-moves number within still =
     let not-71 : number ≡ 71 → ⊥ = λ (e : number ≡ 71). omega (arith, e, within .1) in
     let not-72 : number ≡ 72 → ⊥ = λ (e : number ≡ 72). omega (arith, e, within .1) in

@@ -1,5 +1,5 @@
 -- The cases a to l of "Checked by hand", proved together as one table: each is a whole file, and its outcome is computed from the definitions. A
--- second table has those of a FEIN of nine zeros.
+-- second table has those of a FEIN of nine zeros, a third those of the current quarter.
 -- A computed example has to open the definitions that it computes with, those of crates below it too. Nothing rests on it.
 use Prim.Native.Nat.{ℕ}
 use Prim.Native.String.{String}
@@ -11,7 +11,7 @@ use Rattle.reason.specs.Numbers.{notice}
 use Rattle.lines.specs.Cutting.{lengthTest, endTest}
 use Rattle.lines.specs.Lines.{isEnd, textOf, endOf, linesFrom}
 use Rattle.calendar.specs.Dates.{isLeap, monthDays, daysIn, isDate, inQuarter}
-use Rattle.calendar.specs.Quarters.{isFilingYear, isQuarterMonth, isAfter}
+use Rattle.calendar.specs.Quarters.{isFilingYear, isQuarterMonth, isAfter, isSame, currentQuarter, timingOf}
 use Rattle.calendar.specs.declared.Quarter.{Quarter}
 use Rattle.codes.specs.Codes as Codes
 use Rattle.chars.specs.Characters.{isPermitted, capitalOf, capitals, isBlank, isDigit, isLetter, isOfName}
@@ -34,7 +34,7 @@ use Rattle.cases.specs.Example.{Change, reads, lacks, hasMore, exampleWi
 abbrev pub room : Room
 room = record { ids = 8192; list = 1024 }
 
--- The last closed quarter: no file below is of a later one.
+-- The last closed quarter: no file of a to l is of a later one.
 abbrev pub held : Quarter
 held = record { year = 2028; month = 3 }
 
@@ -52,7 +52,7 @@ unfoldable pub computed : Case → Outcome
 unfolding
     bytes firstOf
     linesFrom isEnd textOf endOf lengthTest endTest
-    isLeap monthDays daysIn isDate inQuarter isFilingYear isQuarterMonth isAfter
+    isLeap monthDays daysIn isDate inQuarter isFilingYear isQuarterMonth isAfter isSame currentQuarter timingOf
     Codes.codesIn Codes.states Codes.provinces Codes.isCode Codes.isAmong Codes.regionOf
     isPermitted capitalOf capitals isBlank isDigit isLetter isOfName columnTest everyColumn
     numberFrom numberIn valueIn periodIn flagIn beginsWith69 isNineZeros mayBeFiled
@@ -69,6 +69,10 @@ passes fein = accepted (record { fein = fein; count = 2; cents = 123500 } ∷ []
 -- Another year, on A, E and S.
 abbrev inYear : String → List Change
 inYear year = reads 1 2 year ∷ reads 2 2 year ∷ reads 3 48 year ∷ reads 4 48 year ∷ []
+
+-- Another period, on A, E and S.
+abbrev inPeriod : String → List Change
+inPeriod period = reads 1 19 period ∷ reads 2 188 period ∷ reads 3 46 period ∷ reads 4 46 period ∷ []
 
 -- Another FEIN, on E, S and T.
 abbrev ofEmployer : String → List Change
@@ -128,3 +132,25 @@ nineZeros =
 pub nine-zeros : map computed nineZeros ≡ map (λ (c : Case). c .stated) nineZeros
 unfolding computed
 nine-zeros = refl
+
+-- (v) of document 02, "A business that closes this quarter": 03 of 2028 is the last closed quarter, and 06 of 2028 the current one.
+abbrev pub closing : List Case
+closing =
+    -- "an employer that shuts in May"
+    case "v" (exampleWith (inYear "2028" ++ inPeriod "06" ++ ceased "05312028")) (passes 12345678) ∷
+    -- "In a current-quarter file every E must be a final return."
+    case "v" (exampleWith (inYear "2028" ++ inPeriod "06")) (refused (notice 65 2 282)) ∷
+    -- "after 47 there"
+    case "v" (exampleWith (inYear "2028" ++ inPeriod "06" ++ (reads 2 282 "2" ∷ []))) (refused (notice 47 2 282)) ∷
+    -- The cease date lies in A's quarter.
+    case "v" (exampleWith (inYear "2028" ++ inPeriod "06" ++ ceased "03312028")) (refused (notice 49 2 283)) ∷
+    -- In a file of the last closed quarter an E need not be final.
+    case "v" (exampleWith (inYear "2028")) (passes 12345678) ∷
+    -- "41 is for quarters after the current"
+    case "v" (exampleWith (inYear "2028" ++ inPeriod "09" ++ ceased "08312028")) (refused (notice 41 1 19)) ∷
+    -- "39 is for years beyond the current quarter's"
+    case "v" (exampleWith (inYear "2029" ++ ceased "03312029")) (refused (notice 39 1 2)) ∷ []
+
+pub closing-cases : map computed closing ≡ map (λ (c : Case). c .stated) closing
+unfolding computed
+closing-cases = refl

@@ -22,7 +22,7 @@ use Rattle.edits.specs.WithContext.{withContext}
 use Rattle.edits.specs.declared.Context.{Context}
 use Rattle.edits.specs.declared.Marks.{Marks}
 use Rattle.edits.specs.declared.Rule.{Rule}
-use Rattle.edits.specs.declared.Rule.the-variants.{Nothing, YearClosed, QuarterClosed, YearOfA, PeriodOfA, FeinNew, FeinOfE, DateInQuarter, IdentityNew, CountOfS, WagesOfS, FileCountOfS, FileCountOfE, FileWagesOfS}
+use Rattle.edits.specs.declared.Rule.the-variants.{Nothing, YearInTime, QuarterInTime, YearOfA, PeriodOfA, FeinNew, FeinOfE, DateInQuarter, IdentityNew, CountOfS, WagesOfS, FileCountOfS, FileCountOfE, FileWagesOfS, FinalIfCurrent}
 use Rattle.edits.specs.declared.Seen.{Seen}
 
 -- What the rules of a date find, given its reading.
@@ -68,16 +68,16 @@ ownRest marks code CeaseDate line first last = ceaseTest marks line first last
 -- The rule that a list of rules names by its number, from 0 in this order; past the last there is none.
 unfoldable pub ruleList : List Rule
 ruleList =
-    Nothing ∷ YearClosed ∷ QuarterClosed ∷ YearOfA ∷ PeriodOfA ∷ FeinNew ∷ FeinOfE ∷ DateInQuarter ∷ IdentityNew ∷ CountOfS ∷ WagesOfS ∷ FileCountOfS ∷
-    FileCountOfE ∷ FileWagesOfS ∷ []
+    Nothing ∷ YearInTime ∷ QuarterInTime ∷ YearOfA ∷ PeriodOfA ∷ FeinNew ∷ FeinOfE ∷ DateInQuarter ∷ IdentityNew ∷ CountOfS ∷ WagesOfS ∷ FileCountOfS ∷
+    FileCountOfE ∷ FileWagesOfS ∷ FinalIfCurrent ∷ []
 
 unfoldable pub ruleOf : ℕ → Rule
 ruleOf number = getD ruleList number Nothing
 
 abbrev pub ruleNumber : Rule → ℕ
 ruleNumber Nothing = 0
-ruleNumber YearClosed = 1
-ruleNumber QuarterClosed = 2
+ruleNumber YearInTime = 1
+ruleNumber QuarterInTime = 2
 ruleNumber YearOfA = 3
 ruleNumber PeriodOfA = 4
 ruleNumber FeinNew = 5
@@ -89,13 +89,14 @@ ruleNumber WagesOfS = 10
 ruleNumber FileCountOfS = 11
 ruleNumber FileCountOfE = 12
 ruleNumber FileWagesOfS = 13
+ruleNumber FinalIfCurrent = 14
 
 -- The rule is found again from its number.
 pub rule-again : (which : Rule) → ruleOf (ruleNumber which) ≡ which
 unfolding ruleOf ruleList
 rule-again Nothing = refl
-rule-again YearClosed = refl
-rule-again QuarterClosed = refl
+rule-again YearInTime = refl
+rule-again QuarterInTime = refl
 rule-again YearOfA = refl
 rule-again PeriodOfA = refl
 rule-again FeinNew = refl
@@ -107,6 +108,7 @@ rule-again WagesOfS = refl
 rule-again FileCountOfS = refl
 rule-again FileCountOfE = refl
 rule-again FileWagesOfS = refl
+rule-again FinalIfCurrent = refl
 
 -- Past a list of rows there is no field.
 abbrev pub noRow : List ℕ

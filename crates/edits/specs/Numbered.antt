@@ -1,4 +1,4 @@
--- The numbers that edits find. Bounds that hold 3, the least that a column is refused by, and 64, the last of a field's rules, hold every number
+-- The numbers that edits find. Bounds that hold 3, the least that a column is refused by, and 65, the last of a field's rules, hold every number
 -- that an edit of a field finds.
 use Prim.Native.Nat.{ℕ, _≤_}
 use mathlib.Core.Bool.{true, _&&_}
@@ -25,7 +25,7 @@ use Rattle.edits.specs.declared.Context.{Context}
 use Rattle.edits.specs.declared.Marks.{Marks}
 use Rattle.edits.specs.declared.Seen.{Seen}
 use Rattle.edits.specs.declared.Rule.{Rule}
-use Rattle.edits.specs.declared.Rule.the-variants.{Nothing, YearClosed, QuarterClosed, YearOfA, PeriodOfA, FeinNew, FeinOfE, DateInQuarter, IdentityNew, CountOfS, WagesOfS, FileCountOfS, FileCountOfE, FileWagesOfS}
+use Rattle.edits.specs.declared.Rule.the-variants.{Nothing, YearInTime, QuarterInTime, YearOfA, PeriodOfA, FeinNew, FeinOfE, DateInQuarter, IdentityNew, CountOfS, WagesOfS, FileCountOfS, FileCountOfE, FileWagesOfS, FinalIfCurrent}
 
 module _ (least most : ℕ) where
   -- Whatever an edit of the list finds, its number is within the bounds.
@@ -51,10 +51,10 @@ module _ (least most : ℕ) where
   first-broken-within [] all = fine-within least most
   first-broken-within (edit ∷ edits) all = or-within least most (edit .finds) (firstBroken edits) (all .0) (first-broken-within edits (all .1))
 
-  module _ (low : least ≤ 3) (high : 64 ≤ most) where
-    -- The bounds hold every number from 3 to 64.
-    inside : (number : ℕ) → leb 3 number && leb number 64 ≡ true → Between least most number
-    inside number e = let w = within 3 number 64 e in omega arith
+  module _ (low : least ≤ 3) (high : 65 ≤ most) where
+    -- The bounds hold every number from 3 to 65.
+    inside : (number : ℕ) → leb 3 number && leb number 65 ≡ true → Between least most number
+    inside number e = let w = within 3 number 65 e in omega arith
 
     ruleset numbers = (none-within, more-within, inside, unless-within, every-within, choice-within, fine-within, period-within, flag-within, entity-within, state-within, zip-within, extension-within)
 
@@ -82,8 +82,8 @@ module _ (least most : ℕ) where
     rule-within : (which : Rule) (marks : Marks) (around : Context) (seen : Seen) (line : List ℕ) (first v : ℕ)
         → AllWithin (ruleEdits which marks around seen line first v)
     rule-within Nothing marks around seen line first v = search numbers
-    rule-within YearClosed marks around seen line first v = search numbers
-    rule-within QuarterClosed marks around seen line first v = search numbers
+    rule-within YearInTime marks around seen line first v = search numbers
+    rule-within QuarterInTime marks around seen line first v = search numbers
     rule-within YearOfA marks around seen line first v = search numbers
     rule-within PeriodOfA marks around seen line first v = search numbers
     rule-within FeinNew marks around seen line first v = search numbers
@@ -95,6 +95,7 @@ module _ (least most : ℕ) where
     rule-within FileCountOfS marks around seen line first v = search numbers
     rule-within FileCountOfE marks around seen line first v = search numbers
     rule-within FileWagesOfS marks around seen line first v = search numbers
+    rule-within FinalIfCurrent marks around seen line first v = search numbers
 
     field-within : (a : Around) (line row : List ℕ) (which : ℕ) → AllWithin (editsOf a line row which)
     field-within a line row which =

@@ -4,8 +4,9 @@ use mathlib.Core.Bool.{Bool, not, _&&_, _||_}
 use mathlib.Core.List.{List, [], _∷_}
 use lib.Dec.{eqb, leb}
 use Rattle.calendar.specs.Dates.{inQuarter}
-use Rattle.calendar.specs.Quarters.{isAfter}
+use Rattle.calendar.specs.Quarters.{currentQuarter, timingOf, mayReport, mustBeFinal}
 use Rattle.calendar.specs.declared.Quarter.{Quarter}
+use Rattle.calendar.specs.declared.Timing.{Timing}
 use Rattle.number.specs.Numbers.{valueIn}
 use Rattle.edits.specs.Edit.{Edit, rule}
 use Rattle.edits.specs.Own.{isFinal}
@@ -13,7 +14,7 @@ use Rattle.edits.specs.declared.Context.{Context}
 use Rattle.edits.specs.declared.Marks.{Marks}
 use Rattle.edits.specs.declared.Seen.{Seen}
 use Rattle.edits.specs.declared.Rule.{Rule}
-use Rattle.edits.specs.declared.Rule.the-variants.{Nothing, YearClosed, QuarterClosed, YearOfA, PeriodOfA, FeinNew, FeinOfE, DateInQuarter, IdentityNew, CountOfS, WagesOfS, FileCountOfS, FileCountOfE, FileWagesOfS}
+use Rattle.edits.specs.declared.Rule.the-variants.{Nothing, YearInTime, QuarterInTime, YearOfA, PeriodOfA, FeinNew, FeinOfE, DateInQuarter, IdentityNew, CountOfS, WagesOfS, FileCountOfS, FileCountOfE, FileWagesOfS, FinalIfCurrent}
 
 -- The year and the period of the record.
 abbrev pub quarterOn : Marks → List ℕ → Quarter
@@ -22,6 +23,10 @@ quarterOn marks line =
       year = valueIn line (marks .«year_first») (marks .«year_last»);
       month = valueIn line (marks .«period_first») (marks .«period_last»);
     }
+
+-- (v) of document 02: "41 is for quarters after the current"
+abbrev pub quarterInTime : Timing → ℕ → List Edit
+quarterInTime timing first = rule 41 first (mayReport timing) ∷ []
 
 -- "E: on an earlier E 45, then list full 63."
 abbrev pub feinNew : Bool → Bool → ℕ → List Edit
@@ -39,13 +44,16 @@ countOfS v count follow first = rule 55 first (eqb v count) ∷ rule 56 first (n
 abbrev pub dateInQuarter : Bool → ℕ → Quarter → ℕ → List Edit
 dateInQuarter final v filed first = rule 49 first (not final || inQuarter v filed) ∷ []
 
+-- "65, E column 282 is 0 in a current-quarter file, after 47 there"
+abbrev pub finalIfCurrent : Timing → ℕ → ℕ → List Edit
+finalIfCurrent timing v first = rule 65 first (not (mustBeFinal timing && eqb v 0)) ∷ []
+
 -- The edits of a rule, in order; v is the field's value.
 abbrev pub ruleEdits : Rule → Marks → Context → Seen → List ℕ → ℕ → ℕ → List Edit
 ruleEdits Nothing marks around seen line first v = []
--- "A: above the last closed year 39."
-ruleEdits YearClosed marks around seen line first v = rule 39 first (leb v (around .held .year)) ∷ []
--- "A: after the last closed quarter 41."
-ruleEdits QuarterClosed marks around seen line first v = rule 41 first (not (isAfter (quarterOn marks line) (around .held))) ∷ []
+-- "39 is for years beyond the current quarter's"
+ruleEdits YearInTime marks around seen line first v = rule 39 first (leb v (currentQuarter (around .held) .year)) ∷ []
+ruleEdits QuarterInTime marks around seen line first v = quarterInTime (timingOf (around .held) (quarterOn marks line)) first
 -- "E and S: not A's 42."
 ruleEdits YearOfA marks around seen line first v = rule 42 first (eqb v (around .filed .year)) ∷ []
 -- "E and S: not A's 43."
@@ -62,6 +70,7 @@ ruleEdits WagesOfS marks around seen line first v = rule 57 first (eqb v (around
 ruleEdits FileCountOfS marks around seen line first v = rule 58 first (eqb v (around .all .count)) ∷ []
 ruleEdits FileCountOfE marks around seen line first v = rule 59 first (eqb v (around .all .employers)) ∷ []
 ruleEdits FileWagesOfS marks around seen line first v = rule 60 first (eqb v (around .all .sum)) ∷ []
+ruleEdits FinalIfCurrent marks around seen line first v = finalIfCurrent (timingOf (around .held) (around .filed)) v first
 
 abbrev pub withContext : Rule → Marks → Context → Seen → List ℕ → ℕ → ℕ → List Edit
 withContext which marks around seen line first last = ruleEdits which marks around seen line first (valueIn line first last)

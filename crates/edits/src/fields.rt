@@ -20,8 +20,8 @@ pub fn rule_of(number: u8) -> Rule
     ensures { λ r. ⌜ r ≡ ruleOf number ⌝ }
 {
     match number {
-        1 => Rule::YearClosed,
-        2 => Rule::QuarterClosed,
+        1 => Rule::YearInTime,
+        2 => Rule::QuarterInTime,
         3 => Rule::YearOfA,
         4 => Rule::PeriodOfA,
         5 => Rule::FeinNew,
@@ -33,6 +33,7 @@ pub fn rule_of(number: u8) -> Rule
         11 => Rule::FileCountOfS,
         12 => Rule::FileCountOfE,
         13 => Rule::FileWagesOfS,
+        14 => Rule::FinalIfCurrent,
         _ => Rule::Nothing,
     }
 }

@@ -61,8 +61,8 @@ pub struct Marks {
 // The rule by which a field is held against its context.
 pub enum Rule {
     Nothing,
-    YearClosed,
-    QuarterClosed,
+    YearInTime,
+    QuarterInTime,
     YearOfA,
     PeriodOfA,
     FeinNew,
@@ -74,4 +74,5 @@ pub enum Rule {
     FileCountOfS,
     FileCountOfE,
     FileWagesOfS,
+    FinalIfCurrent,
 }

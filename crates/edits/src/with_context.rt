@@ -5,13 +5,15 @@ use crate::Rule;
 use crate::Seen;
 use crate::own;
 use calendar::Quarter;
+use calendar::Timing;
 use reason::Edit;
 use reason::Reason;
 ghost use mathlib.Core.Path.{_≡_};
+ghost use Rattle.calendar.specs.Quarters.{mustBeFinal};
 ghost use Rattle.reason.specs.Numbers.{findingOf};
 ghost use Rattle.chars.specs.Characters.{capitals};
 ghost use Rattle.edits.specs.Edit.{firstBroken};
-ghost use Rattle.edits.specs.WithContext.{quarterOn, feinNew, identityNew, countOfS, dateInQuarter, ruleEdits, withContext};
+ghost use Rattle.edits.specs.WithContext.{quarterOn, quarterInTime, feinNew, identityNew, countOfS, dateInQuarter, finalIfCurrent, ruleEdits, withContext};
 
 // The year and the period of the record.
 fn quarter_on(marks: Marks, line: &[u8]) -> Quarter
@@ -20,6 +22,17 @@ fn quarter_on(marks: Marks, line: &[u8]) -> Quarter
     Quarter {
         year: number::value_in(line, marks.year_first, marks.year_last),
         month: number::value_in(line, marks.period_first, marks.period_last),
+    }
+}
+
+// The quarter of A: a closed one or the current one.
+fn quarter_in_time(timing: Timing, first: u16) -> Edit
+    ensures { λ r. ⌜ findingOf r ≡ firstBroken (quarterInTime timing first) ⌝ }
+{
+    match timing {
+        Timing::Closed => Edit::Passed,
+        Timing::Current => Edit::Passed,
+        Timing::Later => Edit::Broken(first, Reason::PeriodTooLate),
     }
 }
 
@@ -70,6 +83,26 @@ fn date_in_quarter(last_return: bool, v: u64, filed: Quarter, first: u16) -> Edi
     Edit::Passed
 }
 
+// Whether every E of a file must be a final return: in the current quarter. A file of a later one is refused at its A.
+fn must_be_final(timing: Timing) -> bool
+    ensures { λ r. ⌜ r ≡ mustBeFinal timing ⌝ }
+{
+    match timing {
+        Timing::Closed => false,
+        Timing::Current => true,
+        Timing::Later => false,
+    }
+}
+
+fn final_if_current(timing: Timing, v: u64, first: u16) -> Edit
+    ensures { λ r. ⌜ findingOf r ≡ firstBroken (finalIfCurrent timing v first) ⌝ }
+{
+    if must_be_final(timing) {
+        return own::unless(v != 0, first, Reason::NotFinal);
+    }
+    Edit::Passed
+}
+
 // The edits of a rule in order; v is the field's value.
 fn rule_edit(
     rule: Rule,
@@ -88,11 +121,14 @@ fn rule_edit(
     let all = around.all;
     match rule {
         Rule::Nothing => Edit::Passed,
-        Rule::YearClosed => own::unless(v <= held.year, first, Reason::YearNotClosed),
-        Rule::QuarterClosed => own::unless(
-            !calendar::is_after(quarter_on(marks, line), held),
+        Rule::YearInTime => own::unless(
+            v <= calendar::current_quarter(held).year,
             first,
-            Reason::PeriodNotClosed,
+            Reason::YearTooLate,
+        ),
+        Rule::QuarterInTime => quarter_in_time(
+            calendar::timing_of(held, quarter_on(marks, line)),
+            first,
         ),
         Rule::YearOfA => own::unless(v == filed.year, first, Reason::YearNotOfA),
         Rule::PeriodOfA => own::unless(v == filed.month, first, Reason::PeriodNotOfA),
@@ -105,6 +141,7 @@ fn rule_edit(
         Rule::FileCountOfS => own::unless(v == all.count, first, Reason::FileCountNotOfS),
         Rule::FileCountOfE => own::unless(v == all.employers, first, Reason::FileCountNotOfE),
         Rule::FileWagesOfS => own::unless(v == all.sum, first, Reason::FileWagesNotOfS),
+        Rule::FinalIfCurrent => final_if_current(calendar::timing_of(held, filed), v, first),
     }
 }
 

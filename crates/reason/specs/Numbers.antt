@@ -9,7 +9,7 @@ use Rattle.reason.specs.declared.Edit.{Edit}
 use Rattle.reason.specs.declared.Edit.the-variants.{Passed, Broken}
 use Rattle.reason.specs.declared.Reason.{Reason}
 use Rattle.reason.specs.declared.Refusal.{Refusal}
-use Rattle.reason.specs.declared.Reason.the-variants.{LineLength, NoLineEnd, BadCharacter, UnknownLetter, EndsBeforeA, EndsAfterA, EndsWithEOpen, EndsWithoutF, BeforeA, SecondA, SWithoutE, TWithoutE, FWithoutE, EWhileEOpen, SUnderZeroE, FWhileEOpen, SecondT, SecondF, BehindF, NotDigit, NotBlank, TextMissing, TextIndented, NotEntityCode, UnknownState, BadZip, BadZipExtension, YearTooEarly, YearNotClosed, BadPeriod, PeriodNotClosed, YearNotOfA, PeriodNotOfA, FeinPrefix, FeinRepeated, FeinNotOfE, BadFlag, NoDate, DateOutsideQuarter, DateNotFinal, DateMissing, IdentityPrefix, IdentityRepeated, BadNameCharacter, CountNotOfS, NoneUnderE, WagesNotOfS, FileCountNotOfS, FileCountNotOfE, FileWagesNotOfS, TooManyS, IdTableFull, EmployerListFull, FeinZero, BadQuarter, WalkEnded, StateUnfit, NotToBeWritten, NoneToTotal, SumTooLarge, SliceLength, BuildLength, ValueTooLong}
+use Rattle.reason.specs.declared.Reason.the-variants.{LineLength, NoLineEnd, BadCharacter, UnknownLetter, EndsBeforeA, EndsAfterA, EndsWithEOpen, EndsWithoutF, BeforeA, SecondA, SWithoutE, TWithoutE, FWithoutE, EWhileEOpen, SUnderZeroE, FWhileEOpen, SecondT, SecondF, BehindF, NotDigit, NotBlank, TextMissing, TextIndented, NotEntityCode, UnknownState, BadZip, BadZipExtension, YearTooEarly, YearTooLate, BadPeriod, PeriodTooLate, YearNotOfA, PeriodNotOfA, FeinPrefix, FeinRepeated, FeinNotOfE, BadFlag, NoDate, DateOutsideQuarter, DateNotFinal, DateMissing, IdentityPrefix, IdentityRepeated, BadNameCharacter, CountNotOfS, NoneUnderE, WagesNotOfS, FileCountNotOfS, FileCountNotOfE, FileWagesNotOfS, TooManyS, IdTableFull, EmployerListFull, FeinZero, NotFinal, BadQuarter, WalkEnded, StateUnfit, NotToBeWritten, NoneToTotal, SumTooLarge, SliceLength, BuildLength, ValueTooLong}
 
 abbrev pub numberOf : Reason → ℕ
 numberOf LineLength = 1
@@ -40,9 +40,9 @@ numberOf UnknownState = 35
 numberOf BadZip = 36
 numberOf BadZipExtension = 37
 numberOf YearTooEarly = 38
-numberOf YearNotClosed = 39
+numberOf YearTooLate = 39
 numberOf BadPeriod = 40
-numberOf PeriodNotClosed = 41
+numberOf PeriodTooLate = 41
 numberOf YearNotOfA = 42
 numberOf PeriodNotOfA = 43
 numberOf FeinPrefix = 44
@@ -66,6 +66,7 @@ numberOf TooManyS = 61
 numberOf IdTableFull = 62
 numberOf EmployerListFull = 63
 numberOf FeinZero = 64
+numberOf NotFinal = 65
 numberOf BadQuarter = 70
 numberOf WalkEnded = 71
 numberOf StateUnfit = 72
@@ -81,10 +82,10 @@ abbrev pub reasons : List Reason
 reasons =
     LineLength ∷ NoLineEnd ∷ BadCharacter ∷ UnknownLetter ∷ EndsBeforeA ∷ EndsAfterA ∷ EndsWithEOpen ∷ EndsWithoutF ∷ BeforeA ∷ SecondA ∷ SWithoutE ∷
     TWithoutE ∷ FWithoutE ∷ EWhileEOpen ∷ SUnderZeroE ∷ FWhileEOpen ∷ SecondT ∷ SecondF ∷ BehindF ∷ NotDigit ∷ NotBlank ∷ TextMissing ∷ TextIndented ∷
-    NotEntityCode ∷ UnknownState ∷ BadZip ∷ BadZipExtension ∷ YearTooEarly ∷ YearNotClosed ∷ BadPeriod ∷ PeriodNotClosed ∷ YearNotOfA ∷ PeriodNotOfA ∷
+    NotEntityCode ∷ UnknownState ∷ BadZip ∷ BadZipExtension ∷ YearTooEarly ∷ YearTooLate ∷ BadPeriod ∷ PeriodTooLate ∷ YearNotOfA ∷ PeriodNotOfA ∷
     FeinPrefix ∷ FeinRepeated ∷ FeinNotOfE ∷ BadFlag ∷ NoDate ∷ DateOutsideQuarter ∷ DateNotFinal ∷ DateMissing ∷ IdentityPrefix ∷ IdentityRepeated ∷
     BadNameCharacter ∷ CountNotOfS ∷ NoneUnderE ∷ WagesNotOfS ∷ FileCountNotOfS ∷ FileCountNotOfE ∷ FileWagesNotOfS ∷ TooManyS ∷ IdTableFull ∷
-    EmployerListFull ∷ FeinZero ∷ BadQuarter ∷ WalkEnded ∷ StateUnfit ∷ NotToBeWritten ∷ NoneToTotal ∷ SumTooLarge ∷ SliceLength ∷ BuildLength ∷ ValueTooLong ∷ []
+    EmployerListFull ∷ FeinZero ∷ NotFinal ∷ BadQuarter ∷ WalkEnded ∷ StateUnfit ∷ NotToBeWritten ∷ NoneToTotal ∷ SumTooLarge ∷ SliceLength ∷ BuildLength ∷ ValueTooLong ∷ []
 
 -- The first of them that has a number; where none has it, the reason of 72.
 unfoldable pub havingNumber : ℕ → List Reason → Reason

@@ -2,7 +2,7 @@
 ghost use mathlib.Core.Path.{_≡_};
 ghost use Rattle.reason.specs.Numbers.{numberOf, reasonOf, isListed};
 
-// One reason for each number of the paper's table, and for 64 of document 02. The number of a reason is `number_of`, and `reason_of` the way back:
+// One reason for each number of the paper's table, and for 64 and 65 of document 02. The number of a reason is `number_of`, and `reason_of` the way back:
 // nothing else goes by cases on the reasons.
 pub enum Reason {
     // 1: A line's length is not the record's.
@@ -61,12 +61,12 @@ pub enum Reason {
     BadZipExtension,
     // 38: Year below 2025.
     YearTooEarly,
-    // 39: Year above the last closed year.
-    YearNotClosed,
+    // 39: Year beyond the current quarter's.
+    YearTooLate,
     // 40: Period: not 03, 06, 09, 12.
     BadPeriod,
-    // 41: Period after the last closed quarter.
-    PeriodNotClosed,
+    // 41: Period after the current quarter.
+    PeriodTooLate,
     // 42: Year that is not A's.
     YearNotOfA,
     // 43: Period that is not A's.
@@ -113,6 +113,8 @@ pub enum Reason {
     EmployerListFull,
     // 64: FEIN of nine zeros.
     FeinZero,
+    // 65: E is no final return in a file of the current quarter.
+    NotFinal,
     // 70: Bad quarter at opening.
     BadQuarter,
     // 71: Line or end after acceptance.
@@ -179,9 +181,9 @@ pub fn number_of(reason: Reason) -> u8
         Reason::BadZip => 36,
         Reason::BadZipExtension => 37,
         Reason::YearTooEarly => 38,
-        Reason::YearNotClosed => 39,
+        Reason::YearTooLate => 39,
         Reason::BadPeriod => 40,
-        Reason::PeriodNotClosed => 41,
+        Reason::PeriodTooLate => 41,
         Reason::YearNotOfA => 42,
         Reason::PeriodNotOfA => 43,
         Reason::FeinPrefix => 44,
@@ -205,6 +207,7 @@ pub fn number_of(reason: Reason) -> u8
         Reason::IdTableFull => 62,
         Reason::EmployerListFull => 63,
         Reason::FeinZero => 64,
+        Reason::NotFinal => 65,
         Reason::BadQuarter => 70,
         Reason::WalkEnded => 71,
         Reason::StateUnfit => 72,
@@ -250,9 +253,9 @@ pub fn reason_of(number: u64) -> Reason
         36 => Reason::BadZip,
         37 => Reason::BadZipExtension,
         38 => Reason::YearTooEarly,
-        39 => Reason::YearNotClosed,
+        39 => Reason::YearTooLate,
         40 => Reason::BadPeriod,
-        41 => Reason::PeriodNotClosed,
+        41 => Reason::PeriodTooLate,
         42 => Reason::YearNotOfA,
         43 => Reason::PeriodNotOfA,
         44 => Reason::FeinPrefix,
@@ -276,6 +279,7 @@ pub fn reason_of(number: u64) -> Reason
         62 => Reason::IdTableFull,
         63 => Reason::EmployerListFull,
         64 => Reason::FeinZero,
+        65 => Reason::NotFinal,
         70 => Reason::BadQuarter,
         71 => Reason::WalkEnded,
         72 => Reason::StateUnfit,

@@ -26,7 +26,7 @@ placeInOrder Total = 3
 placeInOrder Final = 4
 placeInOrder Unknown = 5
 
--- The columns that the rules of other fields look at: year and period for "the last closed quarter", the state for ZIP and extension, E's period
+-- The columns that the rules of other fields look at: year and period for the period test, the state for ZIP and extension, E's period
 -- for 191, E's 282 for the cease date.
 abbrev pub marksOf : Kind → Marks
 marksOf Transmitter = record { «year_first» = 2; «year_last» = 5; «period_first» = 19; «period_last» = 20; state = 139; «final_flag» = 0 }

@@ -1,5 +1,5 @@
--- No edit is missing: the numbers listed for each record are, in order, exactly those of a small table copied from the paper, with 64 of
--- document 02 "right after 44 and before 45", and the first columns of a record's edits never fall.
+-- No edit is missing: the numbers listed for each record are, in order, exactly those of a small table copied from the paper, with 64 and
+-- 65 of document 02, "right after 44 and before 45" and "after 47 there", and the first columns of a record's edits never fall.
 use Prim.Native.Nat.{ℕ}
 use mathlib.Core.Bool.{Bool, true, _&&_}
 use mathlib.Core.List.{List, [], _∷_, map}
@@ -13,7 +13,7 @@ use Rattle.edits.specs.Fields.{Around, rule-again}
 use Rattle.edits.specs.Lists.{fieldEdits}
 use Rattle.edits.specs.ListLaws.{none-listed, fields-cons}
 use Rattle.edits.specs.declared.Context.{Context}
-use Rattle.edits.specs.declared.Rule.the-variants.{Nothing, YearClosed, QuarterClosed, YearOfA, PeriodOfA, FeinNew, FeinOfE, DateInQuarter, IdentityNew, CountOfS, WagesOfS, FileCountOfS, FileCountOfE, FileWagesOfS}
+use Rattle.edits.specs.declared.Rule.the-variants.{Nothing, YearInTime, QuarterInTime, YearOfA, PeriodOfA, FeinNew, FeinOfE, DateInQuarter, IdentityNew, CountOfS, WagesOfS, FileCountOfS, FileCountOfE, FileWagesOfS, FinalIfCurrent}
 use Rattle.record.specs.Judge.{headEdits}
 use Rattle.record.specs.Rules.{rulesOfA, rulesOfE, rulesOfS, rulesOfT, rulesOfF}
 use Rattle.record.specs.declared.kind.Kind.{Kind}
@@ -37,7 +37,7 @@ numbersOfA =
 abbrev pub numbersOfE : List ℕ
 numbersOfE =
     30 ∷ 38 ∷ 42 ∷ 30 ∷ 44 ∷ 64 ∷ 45 ∷ 63 ∷ 31 ∷ 32 ∷ 33 ∷ 32 ∷ 33 ∷ 32 ∷ 33 ∷ 35 ∷ 31 ∷ 37 ∷ 36 ∷ 31 ∷ 34 ∷ 31 ∷ 30 ∷ 31 ∷ 47 ∷
-    40 ∷ 43 ∷ 47 ∷ 47 ∷ 31 ∷ 32 ∷ 33 ∷ 32 ∷ 33 ∷ 30 ∷ 33 ∷ 31 ∷ 47 ∷ 30 ∷ 50 ∷ 51 ∷ 48 ∷ 49 ∷ []
+    40 ∷ 43 ∷ 47 ∷ 47 ∷ 31 ∷ 32 ∷ 33 ∷ 32 ∷ 33 ∷ 30 ∷ 33 ∷ 31 ∷ 47 ∷ 65 ∷ 30 ∷ 50 ∷ 51 ∷ 48 ∷ 49 ∷ []
 
 -- S
 abbrev pub numbersOfS : List ℕ
@@ -62,19 +62,19 @@ listed-head here text kind = refl
 module _ (a : Around) (text : List ℕ) where
   pub listed-A : numbersOf (fieldEdits a text fieldsOfA rulesOfA) ≡ numbersOfA
   unfolding fieldsOfA rulesOfA
-  listed-A = simp (fields-cons, none-listed, class-again RecordLetter, class-again TaxYear, class-again EmployerFein, class-again EntityCode, class-again Period, class-again BlankSpace, class-again RequiredText, class-again StateCode, class-again ZipCode, class-again ZipExtension, class-again Numeric, class-again OptionalText, rule-again Nothing, rule-again YearClosed, rule-again QuarterClosed)
+  listed-A = simp (fields-cons, none-listed, class-again RecordLetter, class-again TaxYear, class-again EmployerFein, class-again EntityCode, class-again Period, class-again BlankSpace, class-again RequiredText, class-again StateCode, class-again ZipCode, class-again ZipExtension, class-again Numeric, class-again OptionalText, rule-again Nothing, rule-again YearInTime, rule-again QuarterInTime)
 
   pub in-order-A : neverFalls (fieldEdits a text fieldsOfA rulesOfA) ≡ true
   unfolding fieldsOfA rulesOfA
-  in-order-A = simp (fields-cons, none-listed, class-again RecordLetter, class-again TaxYear, class-again EmployerFein, class-again EntityCode, class-again Period, class-again BlankSpace, class-again RequiredText, class-again StateCode, class-again ZipCode, class-again ZipExtension, class-again Numeric, class-again OptionalText, rule-again Nothing, rule-again YearClosed, rule-again QuarterClosed)
+  in-order-A = simp (fields-cons, none-listed, class-again RecordLetter, class-again TaxYear, class-again EmployerFein, class-again EntityCode, class-again Period, class-again BlankSpace, class-again RequiredText, class-again StateCode, class-again ZipCode, class-again ZipExtension, class-again Numeric, class-again OptionalText, rule-again Nothing, rule-again YearInTime, rule-again QuarterInTime)
 
   pub listed-E : numbersOf (fieldEdits a text fieldsOfE rulesOfE) ≡ numbersOfE
   unfolding fieldsOfE rulesOfE
-  listed-E = simp (fields-cons, none-listed, class-again RecordLetter, class-again TaxYear, class-again EmployerFein, class-again BlankSpace, class-again RequiredText, class-again StateCode, class-again ZipExtension, class-again ZipCode, class-again EntityCode, class-again AccountNumber, class-again Flag, class-again Period, class-again ThirdQuarterFlag, class-again Numeric, class-again OptionalText, class-again CeaseDate, rule-again Nothing, rule-again YearOfA, rule-again FeinNew, rule-again PeriodOfA, rule-again DateInQuarter)
+  listed-E = simp (fields-cons, none-listed, class-again RecordLetter, class-again TaxYear, class-again EmployerFein, class-again BlankSpace, class-again RequiredText, class-again StateCode, class-again ZipExtension, class-again ZipCode, class-again EntityCode, class-again AccountNumber, class-again Flag, class-again Period, class-again ThirdQuarterFlag, class-again Numeric, class-again OptionalText, class-again CeaseDate, rule-again Nothing, rule-again YearOfA, rule-again FeinNew, rule-again PeriodOfA, rule-again FinalIfCurrent, rule-again DateInQuarter)
 
   pub in-order-E : neverFalls (fieldEdits a text fieldsOfE rulesOfE) ≡ true
   unfolding fieldsOfE rulesOfE
-  in-order-E = simp (fields-cons, none-listed, class-again RecordLetter, class-again TaxYear, class-again EmployerFein, class-again BlankSpace, class-again RequiredText, class-again StateCode, class-again ZipExtension, class-again ZipCode, class-again EntityCode, class-again AccountNumber, class-again Flag, class-again Period, class-again ThirdQuarterFlag, class-again Numeric, class-again OptionalText, class-again CeaseDate, rule-again Nothing, rule-again YearOfA, rule-again FeinNew, rule-again PeriodOfA, rule-again DateInQuarter)
+  in-order-E = simp (fields-cons, none-listed, class-again RecordLetter, class-again TaxYear, class-again EmployerFein, class-again BlankSpace, class-again RequiredText, class-again StateCode, class-again ZipExtension, class-again ZipCode, class-again EntityCode, class-again AccountNumber, class-again Flag, class-again Period, class-again ThirdQuarterFlag, class-again Numeric, class-again OptionalText, class-again CeaseDate, rule-again Nothing, rule-again YearOfA, rule-again FeinNew, rule-again PeriodOfA, rule-again FinalIfCurrent, rule-again DateInQuarter)
 
   pub listed-S : numbersOf (fieldEdits a text fieldsOfS rulesOfS) ≡ numbersOfS
   unfolding fieldsOfS rulesOfS

@@ -1,4 +1,4 @@
--- A refusal of a record's edits, and one of the input's end, has a number from 1 to 64.
+-- A refusal of a record's edits, and one of the input's end, has a number from 1 to 65.
 use Prim.Native.Nat.{ℕ, _≤_}
 use mathlib.Core.List.{List}
 use mathlib.Core.Path.{_≡_}
@@ -24,27 +24,27 @@ use Rattle.record.specs.declared.kind.Kind.{Kind}
 
 ruleset numbers = (none-within, more-within, within, unless-within, every-within)
 
-head-within : (here : Context) (text : List ℕ) (kind : Kind) → AllWithin 1 64 (headEdits here text kind)
+head-within : (here : Context) (text : List ℕ) (kind : Kind) → AllWithin 1 65 (headEdits here text kind)
 head-within here text kind = search numbers depth 16
 
-line-within : (here : Context) (seen : Seen) (line : Line) → AllWithin 1 64 (lineEdits here seen line)
+line-within : (here : Context) (seen : Seen) (line : Line) → AllWithin 1 65 (lineEdits here seen line)
 line-within here seen line =
     let text = capitals (line .text) in
     let kind = kindOn text in
     let fields = fieldEdits (around here seen kind) text (rowsFor kind) (rulesFor kind) in
-    let rest = all-within-append 1 64 (headEdits here text kind) fields (head-within here text kind)
-    (fields-within 1 64 (omega arith) (omega arith) (around here seen kind) text (rowsFor kind) (rulesFor kind)) in
-    more-within 1 64 _ _ (length-within 1 64 290 line (omega arith)) (more-within 1 64 _ _ (end-within 1 64 290 line (omega arith)) rest)
+    let rest = all-within-append 1 65 (headEdits here text kind) fields (head-within here text kind)
+    (fields-within 1 65 (omega arith) (omega arith) (around here seen kind) text (rowsFor kind) (rulesFor kind)) in
+    more-within 1 65 _ _ (length-within 1 65 290 line (omega arith)) (more-within 1 65 _ _ (end-within 1 65 290 line (omega arith)) rest)
 
 pub refusal-numbered : (here : Context) (seen : Seen) (line : Line) (column number : ℕ) → judge here seen line ≡ refusal column number
-    → (1 ≤ number) × (number ≤ 64)
+    → (1 ≤ number) × (number ≤ 65)
 refusal-numbered here seen line column number e =
     let edits = lineEdits here seen line in
-    within-says 1 64 (firstBroken edits) (first-broken-within 1 64 edits (line-within here seen line)) column number
+    within-says 1 65 (firstBroken edits) (first-broken-within 1 65 edits (line-within here seen line)) column number
     (refused-finds here seen line column number e)
 
-at-end-within : (phase : Phase) → AllWithin 1 64 (endEdits phase)
+at-end-within : (phase : Phase) → AllWithin 1 65 (endEdits phase)
 at-end-within phase = search numbers depth 6
 
-pub end-numbered : (phase : Phase) (column number : ℕ) → firstBroken (endEdits phase) ≡ broken column number → (1 ≤ number) × (number ≤ 64)
-end-numbered phase = within-says 1 64 (firstBroken (endEdits phase)) (first-broken-within 1 64 (endEdits phase) (at-end-within phase))
+pub end-numbered : (phase : Phase) (column number : ℕ) → firstBroken (endEdits phase) ≡ broken column number → (1 ≤ number) × (number ≤ 65)
+end-numbered phase = within-says 1 65 (firstBroken (endEdits phase)) (first-broken-within 1 65 (endEdits phase) (at-end-within phase))

@@ -32,7 +32,7 @@ use Rattle.edits.specs.declared.Context.{Context}
 use Rattle.edits.specs.declared.Phase.{Phase}
 use Rattle.edits.specs.declared.Phase.the-variants.{BeforeA, AfterA, EOpen, AfterT, AfterF}
 use Rattle.edits.specs.declared.Rule.{Rule}
-use Rattle.edits.specs.declared.Rule.the-variants.{YearClosed, QuarterClosed, FeinNew, IdentityNew}
+use Rattle.edits.specs.declared.Rule.the-variants.{YearInTime, QuarterInTime, FeinNew, IdentityNew}
 use Rattle.edits.specs.declared.Seen.{Seen}
 use Rattle.record.specs.Among.{judged-size, passed-size}
 use Rattle.record.specs.Judge.{kindOn, around, headEdits, textEdits, rowsFor, saidBy, passed, judge, recordOn, seenBy, seenOn, judgeAmong}
@@ -122,11 +122,11 @@ at-row a text rows rules k class which first last all h this ruled =
     all-append (own (a .marks) (a .code) class text first last) (withContext which (a .marks) (a .here) (a .seen) text first last)
     (rw (this, ruled, class-again class, rule-again which) at (field-fine a text rows rules all k h))
 
-year-rule : getD rulesOfA 1 0 ≡ ruleNumber YearClosed
+year-rule : getD rulesOfA 1 0 ≡ ruleNumber YearInTime
 unfolding rulesOfA
 year-rule = refl
 
-period-rule : getD rulesOfA 4 0 ≡ ruleNumber QuarterClosed
+period-rule : getD rulesOfA 4 0 ≡ ruleNumber QuarterInTime
 unfolding rulesOfA
 period-rule = refl
 
@@ -148,14 +148,14 @@ new-id true seen full e f = inl refl
 new-id false seen full e f = inr (not-true full f, not-true seen e)
 
 module _ (here : Context) (seen : Seen) (text : List ℕ) where
-  closed-quarter : AllFine (fieldEdits (around here seen Transmitter) text fieldsOfA rulesOfA)
+  quarter-in-time : AllFine (fieldEdits (around here seen Transmitter) text fieldsOfA rulesOfA)
       → isReportable (here .held) (record { year = valueIn text 2 5; month = valueIn text 19 20 }) ≡ true
-  closed-quarter all =
+  quarter-in-time all =
       let a = around here seen Transmitter in
-      let year = at-row a text fieldsOfA rulesOfA 1 TaxYear YearClosed 2 5 all (rw fields-of-A (omega arith)) year-of-A year-rule in
-      let period = at-row a text fieldsOfA rulesOfA 4 Period QuarterClosed 19 20 all (rw fields-of-A (omega arith)) period-of-A period-rule in
+      let year = at-row a text fieldsOfA rulesOfA 1 TaxYear YearInTime 2 5 all (rw fields-of-A (omega arith)) year-of-A year-rule in
+      let period = at-row a text fieldsOfA rulesOfA 4 Period QuarterInTime 19 20 all (rw fields-of-A (omega arith)) period-of-A period-rule in
       reportable (here .held) (record { year = valueIn text 2 5; month = valueIn text 19 20 })
-      (unless-fine _ 2 38 (year .0 .1 .0)) (period-fine text 19 20 (period .0 .0)) (not-true _ (unless-fine _ 19 41 (period .1 .0)))
+      (unless-fine _ 2 38 (year .0 .1 .0)) (period-fine text 19 20 (period .0 .0)) (unless-fine _ 19 41 (period .1 .0))
 
   new-fein : AllFine (fieldEdits (around here seen Employer) text fieldsOfE rulesOfE) → (here .«list_full» ≡ false) × (seen .fein ≡ false)
   new-fein all =
@@ -188,7 +188,7 @@ module _ (here : Context) (seen : Seen) where
   fits : (kind : Kind) (text : List ℕ) → AllFine (textEdits here seen text kind) → Fits here (λ n. seen .fein) (λ n. seen .id) (saidBy kind text)
   fits Transmitter text all =
       let part = split text Transmitter all in
-      (place-of-A (here .phase) (here .open .follow) (part .0), closed-quarter here seen text (part .2))
+      (place-of-A (here .phase) (here .open .follow) (part .0), quarter-in-time here seen text (part .2))
   fits Employer text all =
       let part = split text Employer all in
       let new = new-fein here seen text (part .2) in

@@ -4,7 +4,7 @@ use mathlib.Core.List.{List, [], _∷_, _++_}
 use mathlib.Core.Path.{_≡_, refl}
 use lib.ListN.{take, drop, replicate}
 use Rattle.edits.specs.Fields.{ruleNumber}
-use Rattle.edits.specs.declared.Rule.the-variants.{Nothing, YearClosed, QuarterClosed, YearOfA, PeriodOfA, FeinNew, FeinOfE, DateInQuarter, IdentityNew, CountOfS, WagesOfS, FileCountOfS, FileCountOfE, FileWagesOfS}
+use Rattle.edits.specs.declared.Rule.the-variants.{Nothing, YearInTime, QuarterInTime, YearOfA, PeriodOfA, FeinNew, FeinOfE, DateInQuarter, IdentityNew, CountOfS, WagesOfS, FileCountOfS, FileCountOfE, FileWagesOfS, FinalIfCurrent}
 use Rattle.record.specs.declared.kind.Kind.{Kind}
 use Rattle.record.specs.declared.kind.Kind.the-variants.{Transmitter, Employer, Employee, Total, Final, Unknown}
 
@@ -12,13 +12,15 @@ use Rattle.record.specs.declared.kind.Kind.the-variants.{Transmitter, Em
 abbrev quiet : ℕ → List ℕ
 quiet n = replicate n (ruleNumber Nothing)
 
--- A: the year is closed, the quarter is closed.
+-- A: year and quarter are not after the current quarter's.
 unfoldable pub rulesOfA : List ℕ
-rulesOfA = quiet 1 ++ (ruleNumber YearClosed ∷ quiet 2) ++ (ruleNumber QuarterClosed ∷ quiet 12)
+rulesOfA = quiet 1 ++ (ruleNumber YearInTime ∷ quiet 2) ++ (ruleNumber QuarterInTime ∷ quiet 12)
 
--- E: the year is A's, the FEIN is new, the period is A's, the cease date lies in A's quarter.
+-- E: the year is A's, the FEIN is new, the period is A's, the return is a final one if that is the current quarter, the cease date lies in A's quarter.
 unfoldable pub rulesOfE : List ℕ
-rulesOfE = quiet 1 ++ (ruleNumber YearOfA ∷ ruleNumber FeinNew ∷ quiet 14) ++ (ruleNumber PeriodOfA ∷ quiet 9) ++ (ruleNumber DateInQuarter ∷ [])
+rulesOfE =
+    quiet 1 ++ (ruleNumber YearOfA ∷ ruleNumber FeinNew ∷ quiet 14) ++ (ruleNumber PeriodOfA ∷ quiet 8) ++
+    (ruleNumber FinalIfCurrent ∷ ruleNumber DateInQuarter ∷ [])
 
 -- S: the identity number is new under its E, period and year are A's, the FEIN is the open E's.
 unfoldable pub rulesOfS : List ℕ

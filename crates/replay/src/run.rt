@@ -2,6 +2,7 @@
 mod print;
 
 use calendar::Quarter;
+use calendar::Timing;
 use field::class;
 use number::Number;
 use number::rules;
@@ -52,6 +53,14 @@ pub fn case(s: &[u8]) {
         print::edit(address_edit(test, text, a));
         return;
     }
+    if test == 44 {
+        print::answer(
+            0,
+            0,
+            timing_number(calendar::timing_of(quarter(text, 1), quarter(text, 7))),
+        );
+        return;
+    }
     if test < 50 {
         print::flag(calendar_test(test, text));
         return;
@@ -88,6 +97,15 @@ fn calendar_test(test: u16, s: &[u8]) -> bool {
         41 => calendar::in_quarter(read(s, 1, 8), quarter(s, 9)),
         42 => calendar::is_allowed(quarter(s, 1)),
         _ => calendar::is_after(quarter(s, 1), quarter(s, 7)),
+    }
+}
+
+// Closed, current or later, as 0, 1 and 2.
+fn timing_number(timing: Timing) -> u64 {
+    match timing {
+        Timing::Closed => 0,
+        Timing::Current => 1,
+        Timing::Later => 2,
     }
 }
 

@@ -43,12 +43,13 @@ isOpen (reading AfterF) = false
 isOpen accepted = false
 isOpen (refused notice) = false
 
--- "A refusal from 1 to 63, or a later number for an edit of a record", which is 64, ".. After these and 70 the state keeps number and place":
+-- "A refusal from 1 to 63, or a later number for an edit of a record", which are 64 and 65, ".. After these and 70 the state keeps number and place":
 -- a number that a refusal leaves in the state.
 unfoldable pub isLeft : ℕ → Bool
-isLeft number = leb 1 number && leb number 64 || eqb number 70
+isLeft number = leb 1 number && leb number 65 || eqb number 70
 
--- "in a walk not refused, the quarter held, or A's once A is read, is none that this paper allows"
+-- "in a walk not refused, the quarter held, or A's once A is read, is none that this paper allows"; with (v) of document 02, "72 reads
+-- A's quarter likewise": closed or current
 abbrev pub bothUnfit : Quarter → Quarter → Bool
 bothUnfit held filed = not (isAllowed held) || not (isReportable held filed)
 

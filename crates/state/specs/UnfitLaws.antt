@@ -149,9 +149,9 @@ module _ (room : Room) (walk : Walk) where
   unfit-standing e f = rw (e, f)
 
 -- ---- the numbers that a refusal leaves
-pub left-number : (number : ℕ) → (1 ≤ number) × (number ≤ 64) → isLeft number ≡ true
+pub left-number : (number : ℕ) → (1 ≤ number) × (number ≤ 65) → isLeft number ≡ true
 unfolding isLeft
-left-number number within = rw (le-leb 1 number (within .0), le-leb number 64 (within .1))
+left-number number within = rw (le-leb 1 number (within .0), le-leb number 65 (within .1))
 
 pub left-seventy : isLeft 70 ≡ true
 unfolding isLeft

@@ -95,7 +95,7 @@ fn is_left(number: u8) -> bool
     if number < 1 {
         return false;
     }
-    if number <= 64 {
+    if number <= 65 {
         return true;
     }
     number == 70

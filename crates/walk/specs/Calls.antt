@@ -37,7 +37,7 @@ calls lend zero (b ∷ rest) walk t =
 abbrev pub walked : (ℕ → ℕ) → Quarter → List ℕ → Tables → Out
 walked lend held file t = calls lend 0 file (openStep held t .walk) (openStep held t .left)
 
--- What a refusal from 1 to 64 leaves with the caller.
+-- What a refusal from 1 to 65 leaves with the caller.
 abbrev pub refusedWith : Notice → Room → Out
 refusedWith says room = record { says = says; taken = 0; walk = refusedWalk says; left = zeroed room }
 

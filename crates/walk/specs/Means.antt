@@ -52,11 +52,11 @@ again-line says e line t =
 pub again-end : (says : Notice) → isLeft (says .number) ≡ true → (t : Tables) → endStep (refusedWalk says) t ≡ carried (again says (refusedWalk says)) t
 again-end says e t = ap (λ (moved : Moved). carried moved t) (end-fit (roomOf t) (refusedWalk says) (walks.refused says) (refused-fit (roomOf t) says e) refl)
 
-not-seventy : (number : ℕ) → (1 ≤ number) × (number ≤ 64) → eqb number 70 ≡ false
+not-seventy : (number : ℕ) → (1 ≤ number) × (number ≤ 65) → eqb number 70 ≡ false
 not-seventy number within = ne-eqb number 70 (λ e. omega (arith, within))
 
 -- The end call after a refusal.
-end-refused : (room : Room) (says : Notice) → (1 ≤ says .number) × (says .number ≤ 64)
+end-refused : (room : Room) (says : Notice) → (1 ≤ says .number) × (says .number ≤ 65)
     → endStep (refusedWalk says) (zeroed room) ≡ refusedWith says room
 end-refused room says within =
     again-end says (left-number (says .number) within) (zeroed room)

@@ -296,7 +296,7 @@ pub fn record_for(rng: &mut Rng, draft: &Draft, place: usize, letter: u8) -> Vec
         b'A' => random_record_a(rng, draft.quarter),
         b'E' => {
             let (fein, s_follow) = (random_fein(rng), rng.one_in(2));
-            random_record_e(rng, draft.quarter, fein, s_follow)
+            random_record_e_under(rng, (draft.held, draft.quarter), fein, s_follow)
         }
         b'S' => {
             let id = random_id(rng);
@@ -567,9 +567,9 @@ fn quarters_of_a(list: &mut List) {
     list.at_line(
         39,
         b'A',
-        "year beyond the last closed",
+        "year beyond the current quarter's",
         |rng, draft, place| {
-            let next = draft.held.year + 1;
+            let next = draft.held.current_after()?.year + 1;
             if next > 9999 {
                 return None;
             }
@@ -582,13 +582,14 @@ fn quarters_of_a(list: &mut List) {
     list.at_line(
         41,
         b'A',
-        "period behind the last closed",
+        "period behind the current quarter",
         |rng, draft, place| {
-            let later: Vec<u64> = (draft.held.month + 1..=12).filter(|m| m % 3 == 0).collect();
+            let current = draft.held.current_after()?;
+            let later: Vec<u64> = (current.month + 1..=12).filter(|m| m % 3 == 0).collect();
             if later.is_empty() {
                 return None;
             }
-            draft.lines[place].put_number(2, 5, draft.held.year);
+            draft.lines[place].put_number(2, 5, current.year);
             draft.lines[place].put_number(19, 20, rng.pick(&later));
             Some(meant(41, place, 19))
         },
@@ -687,7 +688,7 @@ fn date_elsewhere(rng: &mut Rng, quarter: Quarter) -> u64 {
     }
 }
 
-/// 47 to 51.
+/// 47 to 51, and 65.
 fn flags_and_dates(list: &mut List) {
     for column in [187, 190, 191, 282] {
         list.add(47, format!("no flag in {column}"), move |rng, draft| {
@@ -705,6 +706,19 @@ fn flags_and_dates(list: &mut List) {
             Some(meant(47, place, column))
         });
     }
+    for keeps_date in [false, true] {
+        list.add(65, "not final in the current quarter", move |rng, draft| {
+            if !draft.quarter.is_current(draft.held) {
+                return None;
+            }
+            let place = draft.choose(rng, b'E')?;
+            draft.lines[place].put(282, b"0");
+            if !keeps_date {
+                draft.lines[place].put(283, b"00000000");
+            }
+            Some(meant(65, place, 282))
+        });
+    }
     type DateOf = fn(&mut Rng, Quarter) -> u64;
     let some_date: DateOf = |rng, quarter| {
         let near = random_date(rng, quarter);
@@ -718,6 +732,10 @@ fn flags_and_dates(list: &mut List) {
     ];
     for (number, mark, date) in rows {
         list.add(number, "cease date", move |rng, draft| {
+            // In the current quarter a 0 in 282 is told first.
+            if mark == b"0" && draft.quarter.is_current(draft.held) {
+                return None;
+            }
             let place = draft.choose(rng, b'E')?;
             let date = date(rng, draft.quarter);
             draft.lines[place].put(282, mark);
@@ -885,7 +903,7 @@ mod tests {
             70 => 0,
             number @ 1..=4 => number,
             10..=20 => 5,
-            30..=60 | 64 => 6,
+            30..=60 | 64 | 65 => 6,
             _ => 7,
         };
         let letter = match draft.lines.get(refusal.line.wrapping_sub(1) as usize) {
@@ -896,9 +914,10 @@ mod tests {
         let mut fields = fields_of(letter).iter();
         let field = fields.find(|f| f.first <= column && column <= f.last);
         let first = field.map_or(1, |f| f.first);
-        // "64, right after 44 and before 45"
+        // "64, right after 44 and before 45"; "65 [...] after 47 there"
         let number = match refusal.number {
             64 => 2 * 44 + 1,
+            65 => 2 * 47 + 1,
             number => 2 * number,
         };
         (refusal.line, step, first, number, column)
@@ -972,7 +991,7 @@ mod tests {
     #[test]
     fn every_reason_has_a_break() {
         let numbers: HashSet<u8> = all().iter().map(|one| one.number).collect();
-        let wanted = (1..=8).chain(10..=20).chain(30..=60).chain([64, 70]);
+        let wanted = (1..=8).chain(10..=20).chain(30..=60).chain([64, 65, 70]);
         assert!(wanted.into_iter().all(|number| numbers.contains(&number)));
     }
 }

@@ -17,10 +17,42 @@ impl Quarter {
         (2025..=9999).contains(&self.year) && ends_quarter(self.month)
     }
 
+    /// "The current quarter is the one right after the last closed; after 12 of 9999 there is none."
+    pub fn current_after(self) -> Option<Quarter> {
+        match (self.year, self.month) {
+            (9999, 12) => None,
+            (year, 12) => Some(Quarter::new(year + 1, 3)),
+            (year, month) => Some(Quarter::new(year, month + 3)),
+        }
+    }
+
+    /// The period test, with `held` the last closed quarter.
+    pub fn under(self, held: Quarter) -> Period {
+        if Some(self) == held.current_after() {
+            return Period::Current;
+        }
+        match self <= held {
+            true => Period::Closed,
+            false => Period::Later,
+        }
+    }
+
+    pub fn is_current(self, held: Quarter) -> bool {
+        self.under(held) == Period::Current
+    }
+
     /// "outside A's quarter": the three months up to and with `month`.
     pub fn holds(self, date: Date) -> bool {
         date.year == self.year && date.month <= self.month && date.month + 3 > self.month
     }
+}
+
+/// What the period test says of a quarter (document 02, v): "closed, current or later".
+#[derive(Clone, Copy, Debug, PartialEq, Eq)]
+pub enum Period {
+    Closed,
+    Current,
+    Later,
 }
 
 /// "03, 06, 09, 12"

@@ -124,7 +124,7 @@ pub struct Alteration {
 }
 
 /// The numbers that the language can put into a refused state; another is read as the last.
-pub const NUMBERS: [u8; 9] = [1, 44, 63, 64, 70, 71, 72, 80, 83];
+pub const NUMBERS: [u8; 10] = [1, 44, 63, 64, 65, 70, 71, 72, 80, 83];
 
 /// The phases in the order of their numbers.
 pub const PHASES: [Phase; 5] = [
@@ -404,7 +404,7 @@ impl Columns<'_> {
             phase @ 0..=4 => Standing::Among(PHASES[phase as usize]),
             _ => {
                 let known = NUMBERS.contains(&number);
-                let number = if known { number } else { NUMBERS[8] };
+                let number = if known { number } else { NUMBERS[9] };
                 Standing::Refused(Refusal::new(number, line, column))
             }
         })

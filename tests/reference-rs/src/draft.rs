@@ -299,19 +299,30 @@ pub fn record_f(s: u64, e: u64, cents: u64) -> Vec<u8> {
     f
 }
 
+/// Makes an E record a final return that ceased on this date, MMDDYYYY.
+pub fn put_final(e: &mut [u8], date: u64) {
+    put(e, 282, b"1");
+    put_number(e, 283, 290, date);
+}
+
 /// An employer of a tidy file: FEIN, and identity number and wages of each employee.
 pub struct Employer {
     pub fein: u64,
     pub employees: Vec<(u64, u64)>,
 }
 
-/// A tidy file of these employers; one without employees is a zero return.
+/// A tidy file of these employers; one without employees is a zero return. In the current quarter
+/// each is a final return, that ceased on the first of the quarter's last month.
 pub fn tidy(held: Quarter, quarter: Quarter, employers: &[Employer]) -> Draft {
     let mut draft = Draft::new(held, quarter);
     draft.push(record_a(quarter, 123_456_789, &AUGUSTA));
     for employer in employers {
         let s_follow = !employer.employees.is_empty();
-        draft.push(record_e(quarter, employer.fein, s_follow, &AUGUSTA));
+        let mut e = record_e(quarter, employer.fein, s_follow, &AUGUSTA);
+        if quarter.is_current(held) {
+            put_final(&mut e, quarter.month * 1_000_000 + 10_000 + quarter.year);
+        }
+        draft.push(e);
         for (id, wages) in &employer.employees {
             draft.push(record_s(quarter, employer.fein, *id, *wages));
         }
@@ -506,8 +517,11 @@ pub fn random_held(rng: &mut Rng) -> Quarter {
     Quarter::new(year, rng.pick(&[3, 6, 9, 12]))
 }
 
-/// A quarter from the first of 2025 to the one held.
+/// A quarter from the first of 2025 to the one held, or the current one.
 pub fn random_quarter(rng: &mut Rng, held: Quarter) -> Quarter {
+    if rng.one_in(5) {
+        return held.current_after().unwrap_or(held);
+    }
     if !rng.one_in(3) {
         return held;
     }
@@ -566,8 +580,21 @@ pub fn random_record_e(rng: &mut Rng, quarter: Quarter, fein: u64, s_follow: boo
         put(&mut e, 271, &random_text(rng, 4));
     }
     if rng.one_in(3) {
-        put(&mut e, 282, b"1");
-        put_number(&mut e, 283, 290, random_date(rng, quarter));
+        put_final(&mut e, random_date(rng, quarter));
+    }
+    e
+}
+
+/// An E record of a file that may be of the current quarter, and then is a final return.
+pub fn random_record_e_under(
+    rng: &mut Rng,
+    (held, quarter): (Quarter, Quarter),
+    fein: u64,
+    s_follow: bool,
+) -> Vec<u8> {
+    let mut e = random_record_e(rng, quarter, fein, s_follow);
+    if quarter.is_current(held) {
+        put_final(&mut e, random_date(rng, quarter));
     }
     e
 }
@@ -634,7 +661,7 @@ pub fn valid_in(rng: &mut Rng, held: Quarter, quarter: Quarter, size: Size) -> D
     let mut seen: Vec<u64> = Vec::new();
     for fein in random_feins(rng, count) {
         let s_follow = !rng.one_in(4);
-        draft.push(random_record_e(rng, quarter, fein, s_follow));
+        draft.push(random_record_e_under(rng, (held, quarter), fein, s_follow));
         let employees = if s_follow {
             rng.between(1, size.employees)
         } else {

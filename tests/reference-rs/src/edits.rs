@@ -5,7 +5,7 @@
 //! Nothing here knows how what came before is known: that is the trait `Before`. The meaning of a
 //! file answers it by looking back at the lines, the walk by its state and tables.
 
-use crate::calendar::{ends_quarter, Date, Quarter};
+use crate::calendar::{ends_quarter, Date, Period, Quarter};
 use crate::layout::{self, fields_of, region_of, Field, Kind, Region, LENGTH};
 use crate::lines::Cut;
 
@@ -246,6 +246,7 @@ pub fn edit_field(record: &Record, field: &Field, before: &dyn Before) -> Findin
         Kind::FeinOfE => fein_of_e(record, field, before),
         Kind::FeinUnderE => fein_under_e(record, field, before),
         Kind::Flag => flag(record, field),
+        Kind::FinalFlag => final_flag(record, field, before),
         Kind::FlagInPeriod09 => flag_in_period_09(record, field),
         Kind::CeaseDate => cease_date(record, field, before),
         Kind::Identity => identity(record, field, before),
@@ -349,10 +350,13 @@ fn year_from_2025(record: &Record, field: &Field) -> Result<u64, Broken> {
     Ok(year)
 }
 
-/// "A: above the last closed year 39."
+/// Document 02 (v): "39 is for years beyond the current quarter's"; where no quarter is current, for
+/// those beyond the last closed.
 fn year_of_a(record: &Record, field: &Field, before: &dyn Before) -> Finding {
     let year = year_from_2025(record, field)?;
-    refuse_if(year > before.held().year, 39, field.first)
+    let held = before.held();
+    let most = held.current_after().unwrap_or(held).year;
+    refuse_if(year > most, 39, field.first)
 }
 
 /// "E and S: not A's 42."
@@ -370,12 +374,15 @@ fn period_that_is_one(record: &Record, field: &Field) -> Result<u64, Broken> {
     Ok(month)
 }
 
-/// "A: after the last closed quarter 41."
+/// Document 02 (v): "41 is for quarters after the current".
 fn period_of_a(record: &Record, field: &Field, before: &dyn Before) -> Finding {
     let month = period_that_is_one(record, field)?;
     let (first, last) = layout::YEAR_IN_A;
     let quarter = Quarter::new(record.value(first, last), month);
-    refuse_if(quarter > before.held(), 41, field.first)
+    match quarter.under(before.held()) {
+        Period::Closed | Period::Current => Ok(()),
+        Period::Later => Err(broken(41, field.first)),
+    }
 }
 
 /// "E and S: not A's 43."
@@ -410,6 +417,15 @@ fn fein_under_e(record: &Record, field: &Field, before: &dyn Before) -> Finding 
 fn flag(record: &Record, field: &Field) -> Finding {
     let mark = record.at(field.first);
     refuse_if(mark != b'0' && mark != b'1', 47, field.first)
+}
+
+/// Document 02 (v): "65, E column 282 is 0 in a current-quarter file, after 47 there".
+fn final_flag(record: &Record, field: &Field, before: &dyn Before) -> Finding {
+    flag(record, field)?;
+    match before.quarter_of_a().under(before.held()) {
+        Period::Closed | Period::Later => Ok(()),
+        Period::Current => refuse_if(record.at(field.first) == b'0', 65, field.first),
+    }
 }
 
 /// "191 is tested only in period 09 (Appendix D); otherwise any character passes."

@@ -70,7 +70,7 @@ enum Group {
     Ends,
 }
 
-/// Which kinds follow each other, over and over. Of 20,000 cases enough are bounds, breaks and
+/// Which kinds follow each other, over and over. Of 22,000 cases enough are bounds, breaks and
 /// truncations that each of them comes.
 const MIXTURE: [Group; 27] = {
     use Group::*;
@@ -86,7 +86,7 @@ const FULL_TABLE_EVERY: u64 = 800;
 const FULL_TABLE_AT: [u64; 3] = [100, 350, 600];
 
 /// From so many cases on each number comes often enough, in any mixture and among long files.
-const ENOUGH_CASES: u64 = 20_000;
+const ENOUGH_CASES: u64 = 22_000;
 const ENOUGH_LONG_CASES: u64 = 40;
 
 pub struct Cases {
@@ -299,16 +299,16 @@ fn random_valid(rng: &mut Rng) -> Case {
 mod tests {
     use super::*;
 
-    /// How many cases of a kind 20,000 have: some places are taken by full tables.
+    /// How many cases of a kind 22,000 have: some places are taken by full tables.
     fn slots(group: Group) -> usize {
-        (0..20_000)
+        (0..22_000)
             .filter(|index| !FULL_TABLE_AT.contains(&(index % FULL_TABLE_EVERY)))
             .filter(|index| MIXTURE[*index as usize % MIXTURE.len()] == group)
             .count()
     }
 
     #[test]
-    fn a_run_of_20_000_has_room_for_all() {
+    fn a_run_of_22_000_has_room_for_all() {
         let (bounds, breaks) = (bounds::all(1).len(), breaks::all().len());
         assert!(bounds <= slots(Group::Bound), "{bounds}");
         assert!(20 * breaks <= slots(Group::Break), "{breaks}");
@@ -322,7 +322,7 @@ mod tests {
             let cases = Cases::new(8, count, Options::default());
             cases.take(90).map(|c| (c.input, c.piece)).collect()
         };
-        assert_eq!(take(90), take(20_000));
+        assert_eq!(take(90), take(22_000));
     }
 
     #[test]
@@ -330,8 +330,8 @@ mod tests {
         let promised = |count, options| Cases::new(1, count, options).promised();
         let usual = Options::default();
         assert_eq!(promised(19_999, usual), []);
-        // Acceptance, 8 + 11 + 35 numbers and 70, but for 61.
-        assert_eq!(promised(20_000, usual).len(), 55);
+        // Acceptance, 8 + 11 + 36 numbers and 70, but for 61.
+        assert_eq!(promised(22_000, usual).len(), 56);
         let long = Options {
             long: true,
             ..usual

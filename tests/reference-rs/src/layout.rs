@@ -28,8 +28,10 @@ pub enum Kind {
     FeinOfE,
     /// The FEIN of S and T.
     FeinUnderE,
-    /// E 187, 190, 282.
+    /// E 187, 190.
     Flag,
+    /// E 282.
+    FinalFlag,
     /// E 191.
     FlagInPeriod09,
     CeaseDate,
@@ -103,7 +105,7 @@ pub const E: [Field; 28] = [
     field(261, 270, Kind::Number),
     field(271, 274, Kind::OptionalText),
     field(275, 281, Kind::Blank),
-    field(282, 282, Kind::Flag),
+    field(282, 282, Kind::FinalFlag),
     field(283, 290, Kind::CeaseDate),
 ];
 

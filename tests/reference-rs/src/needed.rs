@@ -141,8 +141,9 @@ fn full_and(id: u64) -> Draft {
 }
 
 fn quarters(list: &mut List) {
-    let headers: [(&[u8], Meant); 2] = [
-        (b"202512\n", refused(39, 1, 2)),
+    let headers: [(&[u8], Meant); 3] = [
+        (b"202509\n", refused(39, 1, 2)),
+        (b"202512\n", refused(65, 2, 282)),
         (b"202604\n", refused(70, 0, 0)),
     ];
     for (header, meant) in headers {

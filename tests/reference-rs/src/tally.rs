@@ -9,7 +9,7 @@ pub const ENOUGH: u64 = 20;
 
 /// Every number that the program can answer; 0 stands for acceptance.
 pub fn answers() -> impl Iterator<Item = u8> {
-    (0..=8).chain(10..=20).chain(30..=64).chain([70])
+    (0..=8).chain(10..=20).chain(30..=65).chain([70])
 }
 
 /// The number of an outcome; 0 stands for acceptance.
@@ -121,9 +121,9 @@ mod tests {
     use super::*;
 
     #[test]
-    fn fifty_six_answers() {
-        // Acceptance, 1 to 8, 10 to 20, 30 to 64, and 70.
-        assert_eq!(answers().count(), 1 + 8 + 11 + 35 + 1);
+    fn fifty_seven_answers() {
+        // Acceptance, 1 to 8, 10 to 20, 30 to 65, and 70.
+        assert_eq!(answers().count(), 1 + 8 + 11 + 36 + 1);
     }
 
     #[test]

@@ -4,7 +4,7 @@
 //!
 //! Readings of open points are numbered as in docs/DECISIONS.md ("How the paper is read").
 
-use crate::calendar::{ends_quarter, Quarter};
+use crate::calendar::{ends_quarter, Period, Quarter};
 use crate::edits::{edit_input_end, edit_line, Before, Phase, Record, Refusal, MOST_S};
 use crate::layout;
 use crate::lines::first_line;
@@ -246,14 +246,18 @@ fn unfit_standing(state: &State) -> bool {
     !state.held.may_be_held() || (state.a_is_read() && !may_be_of_a(state.quarter_of_a, state.held))
 }
 
-/// The numbers of the table that end a walk or its opening, and 64.
+/// The numbers of the table that end a walk or its opening, and 64 and 65.
 pub fn is_left_by_a_refusal(number: u8) -> bool {
-    matches!(number, 1..=8 | 10..=20 | 30..=64 | 70)
+    matches!(number, 1..=8 | 10..=20 | 30..=65 | 70)
 }
 
-/// 18: "if A's edits pass it: from 2025 on, a quarter's month, not after the one held".
+/// 18: "if A's edits pass it: from 2025 on, a quarter's month, closed or current".
 fn may_be_of_a(quarter: Quarter, held: Quarter) -> bool {
-    quarter.year >= 2025 && ends_quarter(quarter.month) && quarter <= held
+    let timely = match quarter.under(held) {
+        Period::Closed | Period::Current => true,
+        Period::Later => false,
+    };
+    quarter.year >= 2025 && ends_quarter(quarter.month) && timely
 }
 
 /// What a record that breaks no edit leaves (17).

@@ -81,7 +81,7 @@ fn refusal_in(words: &Words) -> Option<Refusal> {
 
 /// The numbers of refusals in the papers: those of document 01's table, and 84 and 85 of document 02.
 pub fn is_listed(number: u8) -> bool {
-    matches!(number, 1..=8 | 10..=20 | 30..=64 | 70..=72 | 80..=85)
+    matches!(number, 1..=8 | 10..=20 | 30..=65 | 70..=72 | 80..=85)
 }
 
 #[cfg(test)]
@@ -135,7 +135,7 @@ mod tests {
             words[1] = number;
             assert_eq!(
                 fit(&words),
-                matches!(number, 1..=8 | 10..=20 | 30..=64 | 70)
+                matches!(number, 1..=8 | 10..=20 | 30..=65 | 70)
             );
         }
         words[1] = 44;

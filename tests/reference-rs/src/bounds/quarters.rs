@@ -10,6 +10,8 @@ const MONTHS: [u64; 4] = [3, 6, 9, 12];
 pub fn add(list: &mut List) {
     list.name("quarters of a");
     quarters_of_a(list);
+    list.name("final returns");
+    final_returns(list);
     list.name("quarters held");
     quarters_held(list);
     list.name("quarters of e and s");
@@ -24,12 +26,14 @@ pub fn add(list: &mut List) {
     leap_days(list);
 }
 
-/// Every quarter against the last closed one; years 2024, 2025 and 9999.
+/// Every quarter against the last closed one; years 2024, 2025 and 9999, the year beyond, and behind
+/// 12 the one beyond that.
 fn quarters_of_a(list: &mut List) {
     for held_year in [2025, 2026, 9998, 9999] {
         for held in MONTHS.map(|month| Quarter::new(held_year, month)) {
             let years = [0, 2024, 2025, 2026, held_year - 1, held_year, held_year + 1];
-            for year in years.into_iter().filter(|year| *year <= 9999) {
+            let beyond = (held.month == 12).then_some(held_year + 2);
+            for year in years.into_iter().chain(beyond).filter(|year| *year <= 9999) {
                 for month in MONTHS {
                     let draft = zero_return(held, Quarter::new(year, month));
                     list.add_unless(&draft, refusal_of_a(held, year, month));
@@ -40,14 +44,69 @@ fn quarters_of_a(list: &mut List) {
 }
 
 fn refusal_of_a(held: Quarter, year: u64, month: u64) -> Option<Meant> {
+    let behind_12 = u64::from(held.month == 12);
+    // How many quarters it is behind the last closed one.
+    let steps = (year * 4 + month / 3) as i64 - (held.year * 4 + held.month / 3) as i64;
     if year < 2025 {
         Some(refused(38, 1, 2))
-    } else if year > held.year {
+    } else if year > held.year + behind_12 {
         Some(refused(39, 1, 2))
-    } else if year == held.year && month > held.month {
+    } else if steps > 1 {
         Some(refused(41, 1, 19))
     } else {
         None
+    }
+}
+
+/// Each flag of a final return, with a cease date and without, in a file of the last closed quarter
+/// and of the current one, under every last closed quarter of a year, and of the last year.
+fn final_returns(list: &mut List) {
+    for held in [
+        (2026, 3),
+        (2026, 6),
+        (2026, 9),
+        (2026, 12),
+        (9999, 9),
+        (9999, 12),
+    ] {
+        let held = Quarter::new(held.0, held.1);
+        for quarter in [Some(held), held.current_after()].into_iter().flatten() {
+            let day = quarter.month * 1_000_000 + 150_000 + quarter.year;
+            for (flag, date) in [(b"0", 0), (b"0", day), (b"1", 0), (b"1", day), (b"2", day)] {
+                let mut draft = zero_return(held, quarter);
+                draft.lines[1].put(282, flag);
+                draft.lines[1].put_number(283, 290, date);
+                let refusal = match (flag, date) {
+                    (b"2", _) => Some(refused(47, 2, 282)),
+                    (b"0", _) if quarter != held => Some(refused(65, 2, 282)),
+                    (b"0", 1..) => Some(refused(50, 2, 283)),
+                    (b"1", 0) => Some(refused(51, 2, 283)),
+                    _ => None,
+                };
+                list.add_unless(&draft, refusal);
+            }
+        }
+    }
+    // Of two employers of the current quarter each must close.
+    for closing in [[true, true], [true, false], [false, true], [false, false]] {
+        let employ = |fein| Employer {
+            fein,
+            employees: vec![(5, 7)],
+        };
+        let mut draft = tidy(Q1, Quarter::new(2026, 6), &[employ(11), employ(22)]);
+        for (place, _) in [1, 4]
+            .into_iter()
+            .zip(closing)
+            .filter(|(_, closes)| !closes)
+        {
+            draft.lines[place].put(282, b"000000000");
+        }
+        let refusal = match closing {
+            [true, true] => None,
+            [true, false] => Some(refused(65, 5, 282)),
+            [false, _] => Some(refused(65, 2, 282)),
+        };
+        list.add_unless(&draft, refusal);
     }
 }
 

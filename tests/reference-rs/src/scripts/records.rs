@@ -1,6 +1,6 @@
 //! Lines for a state: mostly such as it takes next.
 
-use crate::calendar::Quarter;
+use crate::calendar::{ends_quarter, Quarter};
 use crate::draft::*;
 use crate::edits::Phase;
 use crate::lines::first_line;
@@ -57,12 +57,18 @@ pub fn record(rng: &mut Rng, letter: u8, state: &State, tables: &Tables) -> Vec<
     match letter {
         b'A' => {
             let first = Quarter::new(2025, 3);
-            let quarter = rng.pick(&[state.held, state.held, first, quarter]);
+            let current = state.held.current_after().unwrap_or(first);
+            let quarter = rng.pick(&[state.held, state.held, first, quarter, current]);
             record_a(quarter, random_fein(rng), &AUGUSTA)
         }
         b'E' => {
             let (fein, s_follow) = (some_fein(rng, tables), !rng.one_in(4));
-            record_e(quarter, fein, s_follow, &AUGUSTA)
+            let mut e = record_e(quarter, fein, s_follow, &AUGUSTA);
+            // In the current quarter mostly a final return, else at times.
+            if quarter.is_current(state.held) != rng.one_in(6) && ends_quarter(quarter.month) {
+                put_final(&mut e, random_date(rng, quarter));
+            }
+            e
         }
         b'S' => {
             let (id, wages) = (some_id(rng, tables), some_wages(rng));

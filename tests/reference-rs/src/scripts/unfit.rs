@@ -36,6 +36,7 @@ fn alterations() -> Vec<Alter> {
     open_e(&mut list);
     quarters_held(&mut list);
     quarters_of_a(&mut list);
+    current_quarters(&mut list);
     untested(&mut list);
     list
 }
@@ -142,7 +143,14 @@ fn quarters_held(list: &mut Vec<Alter>) {
 
 /// "or A's once A is read"
 fn quarters_of_a(list: &mut Vec<Alter>) {
-    let around_held = [(2026, 6), (2026, 9), (2027, 3), (2025, 12), (10_000, 3)];
+    let around_held = [
+        (2026, 6),
+        (2026, 9),
+        (2026, 12),
+        (2027, 3),
+        (2025, 12),
+        (10_000, 3),
+    ];
     let around_first = [(0, 3), (2024, 12), (2025, 3)];
     let months = (0..=13).chain([99]).map(|month| (2025, month));
     for (year, month) in around_held.into_iter().chain(around_first).chain(months) {
@@ -150,6 +158,24 @@ fn quarters_of_a(list: &mut Vec<Alter>) {
             state.held = HELD;
             state.quarter_of_a = Quarter::new(year, month);
         });
+    }
+}
+
+/// "72 reads A's quarter likewise": the current quarter and the one behind it, at the end of a year
+/// and of the last one.
+fn current_quarters(list: &mut Vec<Alter>) {
+    let rows = [
+        ((2026, 12), [(2027, 3), (2027, 6)]),
+        ((9999, 9), [(9999, 12), (10_000, 3)]),
+        ((9999, 12), [(9999, 12), (10_000, 3)]),
+    ];
+    for ((held_year, held_month), quarters) in rows {
+        for (year, month) in quarters {
+            push(list, move |state| {
+                state.held = Quarter::new(held_year, held_month);
+                state.quarter_of_a = Quarter::new(year, month);
+            });
+        }
     }
 }
 
@@ -203,10 +229,14 @@ mod tests {
             "uuffuu",
             months,
             "u",
-            "fuufu",
+            "ffuufu",
             "uuf",
             months,
             "u",
+            // The current quarter, and the one behind it.
+            "fu",
+            "fu",
+            "fu",
             // What counts in some walks only.
             "uuuf",
         ];

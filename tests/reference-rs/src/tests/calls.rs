@@ -76,7 +76,8 @@ fn unfit_states() {
     assert_unfit(|s| s.held = Quarter::new(2024, 12));
     assert_unfit(|s| s.held = Quarter::new(10_000, 3));
     assert_unfit(|s| s.held = Quarter::new(2026, 4));
-    assert_unfit(|s| s.quarter_of_a = Quarter::new(2026, 6));
+    assert_unfit(|s| s.quarter_of_a = Quarter::new(2026, 9));
+    assert_fit(|s| s.quarter_of_a = Quarter::new(2026, 6));
     assert_unfit(|s| s.quarter_of_a = Quarter::new(2024, 12));
     assert_unfit(|s| s.quarter_of_a = Quarter::new(2025, 11));
     assert_fit(|s| s.quarter_of_a = Quarter::new(2025, 12));
@@ -132,7 +133,7 @@ fn numbers_of_refused_walks() {
     for number in 0..=255 {
         let left = (1..=8).contains(&number)
             || (10..=20).contains(&number)
-            || (30..=64).contains(&number)
+            || (30..=65).contains(&number)
             || number == 70;
         let (mut state, _, _) = e_open();
         state.standing = Standing::Refused(Refusal::new(number, 3, 4));
@@ -148,7 +149,7 @@ fn numbers_of_refused_walks() {
 /// nothing".
 #[test]
 fn refused_walks() {
-    for number in [1, 63, 64, 70] {
+    for number in [1, 63, 64, 65, 70] {
         let (mut state, mut ids, mut list) = e_open();
         let refusal = Refusal::new(number, 3, 4);
         state.standing = Standing::Refused(refusal);

@@ -21,9 +21,9 @@ fn generated_cases() {
         small: true,
         ..Options::default()
     };
-    let cases = Cases::new(3, 20_000, options);
+    let cases = Cases::new(3, 22_000, options);
     let promised = cases.promised();
-    assert_eq!(promised.len(), 53);
+    assert_eq!(promised.len(), 54);
     let mut tally = Tally::default();
     for (k, case) in cases.enumerate() {
         tally.count(&case, &outcome(&case.input));

@@ -149,7 +149,7 @@ fn unfit_states() {
             refused(&|state| state.lines_read = 231_075);
             refused(&|state| state.held = Quarter::new(2026, 4));
             refused(&|state| state.quarter_of_a = Quarter::new(2024, 12));
-            refused(&|state| state.standing = Standing::Refused(Refusal::new(65, 1, 1)));
+            refused(&|state| state.standing = Standing::Refused(Refusal::new(66, 1, 1)));
             refused(&|state| state.standing = Standing::Refused(Refusal::new(80, 0, 0)));
         }
     }
