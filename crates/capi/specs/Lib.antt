@@ -1,3 +1,4 @@
 pub mod Exports
 pub mod ExportLaws
 pub mod Theorems
+pub mod Built

@@ -132,7 +132,8 @@ fn texts_for(rng: &mut Rng, field: &Field, own: &[u8]) -> Vec<Vec<u8>> {
         text[rng.end_or_between(1, width) - 1] = *other;
         texts.push(text);
     }
-    // Too long and bad: 85 comes first.
+    // Too long and bad, within the columns and behind them: 85 comes first.
+    texts.push([&[0x07], &filled(width)[..]].concat());
     texts.push([&filled(width)[..], &[0x07]].concat());
     texts
 }

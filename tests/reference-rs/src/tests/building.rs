@@ -130,6 +130,7 @@ fn refusals() {
         (a.with_number(PERIOD_OF_A, 100), 85, 19),
         (a.with_number(PERIOD_OF_A, 4), 40, 19),
         (a.with_text(6, &[b'A'; 51]), 85, 24),
+        (a.with_text(6, &[b'\t'; 51]), 85, 24),
         (a.with_text(6, b""), 32, 24),
         (a.with_text(6, b" A"), 33, 24),
         (a.with_text(6, b"A\tB"), 3, 25),

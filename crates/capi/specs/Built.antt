@@ -1,0 +1,58 @@
+-- number-told, text-told: what the exports that read a field say of a record that they built.
+use Prim.Native.Nat.{ℕ, _<_}
+use mathlib.Core.Bool.{true}
+use mathlib.Core.List.{List, map}
+use mathlib.Core.Path.{_≡_, sym, ap, _∙_}
+use lib.ListN.{length, getD}
+use Rattle.laws.specs.Finding.{value}
+use Rattle.chars.specs.CharacterLaws.{capitals-again}
+use Rattle.chars.specs.Characters.{capitals}
+use Rattle.number.specs.Numbers.{numberIn}
+use Rattle.layout.specs.Fields.{firstIn, lastIn}
+use Rattle.record.specs.Judge.{rowsFor}
+use Rattle.record.specs.Kinds.{kindOf, isKnown}
+use Rattle.write.specs.Records.{recordOf}
+use Rattle.build.specs.Building.{partOf}
+use Rattle.build.specs.FillLaws.{padded-is}
+use Rattle.build.specs.Theorems.{Built, built-slice, field-read-back, number-read-back}
+use Rattle.build.specs.Values.{Value, amount, none, words, Filled, fillRecord, formIn, trimmed, textIn, readBy, asRead}
+use Rattle.build.specs.declared.form.Form.{Form}
+use Rattle.build.specs.declared.form.Form.the-variants.{Amount, Words}
+use Rattle.capi.specs.Exports.{filledBuilt, fieldRow, fieldReading, fieldLength}
+
+same-words : (a b : List ℕ) → words a ≡ words b → a ≡ b
+same-words a b e = cc
+
+module _ (letter : ℕ) (values texts out answer : List ℕ) (known : isKnown (kindOf letter) ≡ true) (built : Built letter values texts out) where
+  -- The slice that the caller has then, and the value that was given for field k.
+  abbrev pub slice : List ℕ
+  slice = filledBuilt letter values texts out answer .out
+
+  abbrev pub valueAt : ℕ → Value
+  valueAt k = getD (map (λ (field : Filled). field .value) (fillRecord letter values texts)) k none
+
+  -- It is read in capitals, and has no other letters.
+  in-capitals : capitals slice ≡ slice
+  in-capitals =
+      let is : slice ≡ capitals (recordOf (map partOf (fillRecord letter values texts))) =
+      built-slice letter values texts out built ∙ padded-is (fillRecord letter values texts) in
+      ap capitals is ∙ capitals-again (recordOf (map partOf (fillRecord letter values texts))) ∙ sym is
+
+  module _ (k : ℕ) (has-row : k < length (rowsFor (kindOf letter))) where
+    -- "numbers, given and read as numbers"
+    pub number-told : formIn (fieldRow letter k) ≡ Amount → (v : ℕ) → valueAt k ≡ amount v → fieldReading letter k slice ≡ value v
+    number-told is v gives =
+        ap (λ (line : List ℕ). numberIn line (firstIn (fieldRow letter k)) (lastIn (fieldRow letter k))) in-capitals
+        ∙ number-read-back letter values texts out known built k has-row is v gives
+
+    -- "with capitals for small letters and without trailing blanks": its characters, and how many they are
+    pub text-told : formIn (fieldRow letter k) ≡ Words → (text : List ℕ) → valueAt k ≡ words text
+        → (textIn (capitals slice) (firstIn (fieldRow letter k)) (lastIn (fieldRow letter k)) ≡ trimmed (capitals text))
+        × (fieldLength letter k slice ≡ length (trimmed (capitals text)))
+    text-told is text gives =
+        let first = firstIn (fieldRow letter k) in
+        let last = lastIn (fieldRow letter k) in
+        let same : textIn slice first last ≡ trimmed (capitals text) =
+        same-words _ _ (ap (λ (form : Form). readBy form slice first last) (sym is) ∙ field-read-back letter values texts out known built k has-row ∙ ap asRead gives) in
+        let told : textIn (capitals slice) first last ≡ trimmed (capitals text) = ap (λ (line : List ℕ). textIn line first last) in-capitals ∙ same in
+        (told, ap length told)
