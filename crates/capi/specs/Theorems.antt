@@ -1,4 +1,4 @@
--- A session through words is the session of the walk: what a call leaves, the words tell to the next. Words that tell no walk are answered 72, and
+-- Calls through words are the calls of the walk: what a call leaves, the words tell to the next. Words that tell no walk are answered 72, and
 -- nothing is changed.
 use Prim.Native.Nat.{ℕ, _≤_}
 use mathlib.Core.Bool.{Bool, true, false, false≢true}
@@ -127,7 +127,7 @@ module _ (words answer : List ℕ) (t : Tables) (has : Called) (room : wordCount
   end-follows walk tells promised =
       rw (sym tells) (follows (endThrough words t) words answer has room promised (end-stands (roomOf t) (walkIn words) _ refl))
 
--- ---- a session
+-- ---- calls one after the other
 -- A line call: the bytes and the answer's words that it was lent, and what the caller has after it.
 pub record LineCall : Type 0 where
   pub bytes : List ℕ
@@ -146,14 +146,14 @@ AllFollow walk t words (c ∷ calls) =
     let out = lineStep walk (firstLine (c .bytes)) t in
     Follows out words (c .has) × AllFollow (out .walk) (out .left) (c .has .state) calls
 
-pub session-follows : (calls : List LineCall) (words : List ℕ) (t : Tables) (walk : Walk) → walkIn words ≡ walk → wordCount ≤ length words
+pub calls-follow : (calls : List LineCall) (words : List ℕ) (t : Tables) (walk : Walk) → walkIn words ≡ walk → wordCount ≤ length words
     → InRow words t calls → AllFollow walk t words calls
-session-follows [] words t walk tells room row = tt
-session-follows (c ∷ calls) words t walk tells room row =
+calls-follow [] words t walk tells room row = tt
+calls-follow (c ∷ calls) words t walk tells room row =
     let out = lineStep walk (firstLine (c .bytes)) t in
     let one : Follows out words (c .has) = line-follows words (c .answer) t (c .has) room walk tells (c .bytes) (row .0) in
     let enough-left : wordCount ≤ length (c .has .state) = rw (one .room) room in
-    (one, session-follows calls (c .has .state) (out .left) (out .walk) (one .walk) enough-left (subst (λ (left : Tables). InRow (c .has .state) left calls) (one .left) (row .1)))
+    (one, calls-follow calls (c .has .state) (out .left) (out .walk) (one .walk) enough-left (subst (λ (left : Tables). InRow (c .has .state) left calls) (one .left) (row .1)))
 
 -- ---- words that tell no walk
 module _ (words answer : List ℕ) (t : Tables) (has : Called) (unknown : Unknown words) where
