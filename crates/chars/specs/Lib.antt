@@ -3,3 +3,4 @@ pub mod CharacterLaws
 pub mod Columns
 pub mod ColumnLaws
 pub mod Agree
+pub mod Sweep

@@ -2,12 +2,13 @@
 use reason::Edit;
 use reason::Reason;
 ghost use mathlib.Core.Path.{_≡_};
-ghost use Prim.Native.Nat.{_-_};
+ghost use Prim.Native.Nat.{_-_, _<_};
 ghost use Rattle.laws.specs.Finding.{fine, broken};
 ghost use Rattle.laws.specs.Choice.{if_then_else_};
 ghost use Rattle.reason.specs.Numbers.{findingOf, numberOf};
 ghost use Rattle.chars.specs.Characters.{capitals};
-ghost use Rattle.chars.specs.Columns.{allowedTest, everyColumn};
+ghost use Rattle.chars.specs.Columns.{allowedTest, everyColumn, isFine};
+ghost use Rattle.chars.specs.Sweep.{allPass, isBetween, readsAsOfName};
 
 // What a column may hold.
 pub enum Allowed {
@@ -43,10 +44,64 @@ pub fn column_edit(allowed: Allowed, line: &[u8], column: u16) -> Edit
     }
 }
 
-// The first column of first to last that does not hold what it may.
+// Whether the characters of the places from..to all lie between two, both among them. Every one is looked at, so that a compiler can compare several at
+// once. Behind the line's end there is none.
+fn all_between(line: &[u8], from: usize, to: usize, low: u8, high: u8) -> bool
+    requires { ⌜ 0 < low ⌝ }
+    ensures { λ r. ⌜ r ≡ allPass (isBetween low high) (now (line .entry)) from (to - from) ⌝ }
+{
+    if line.len() < to {
+        return to <= from;
+    }
+    let mut good = true;
+    let mut i = from;
+    while i < to {
+        let c = line[i];
+        good = good & ((low <= c) & (c <= high));
+        i += 1;
+    }
+    good
+}
+
+// Whether the characters of the places from..to are all of names; as above.
+fn all_of_names(line: &[u8], from: usize, to: usize) -> bool
+    ensures { λ r. ⌜ r ≡ allPass readsAsOfName (now (line .entry)) from (to - from) ⌝ }
+{
+    if line.len() < to {
+        return to <= from;
+    }
+    let mut good = true;
+    let mut i = from;
+    while i < to {
+        let c = crate::capital(line[i]);
+        good = good & crate::is_of_name(c);
+        i += 1;
+    }
+    good
+}
+
+// Whether every column of first to last holds what it may.
+pub fn all_hold(allowed: Allowed, line: &[u8], first: u16, last: u16) -> bool
+    ensures { λ r. ⌜ r ≡ isFine (everyColumn allowed (capitals (now (line .entry))) first last) ⌝ }
+{
+    let from = crate::index_of(first) as usize;
+    let to = last as usize;
+    match allowed {
+        Allowed::Anything => true,
+        Allowed::Permitted => all_between(line, from, to, 0x20, 0x7e),
+        Allowed::Blanks => all_between(line, from, to, b' ', b' '),
+        Allowed::Digits => all_between(line, from, to, b'0', b'9'),
+        Allowed::OfNames => all_of_names(line, from, to),
+    }
+}
+
+// The first column of first to last that does not hold what it may. Most often there is none, so that is asked first.
 pub fn every_column(allowed: Allowed, line: &[u8], first: u16, last: u16) -> Edit
     ensures { λ r. ⌜ findingOf r ≡ everyColumn allowed (capitals (now (line .entry))) first last ⌝ }
 {
+    if all_hold(allowed, line, first, last) {
+        return Edit::Passed;
+    }
     let mut at = crate::index_of(first);
     while at < last {
         let e = column_edit(allowed, line, at + 1);

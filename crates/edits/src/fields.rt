@@ -6,13 +6,17 @@ use crate::Seen;
 use crate::own;
 use crate::with_context;
 use chars::columns;
+use chars::columns::Allowed;
 use field::class;
 use field::class::Class;
 use reason::Edit;
 ghost use mathlib.Core.Path.{_≡_};
+ghost use Prim.Native.Nat.{_-_};
 ghost use lib.ListN.{getD};
+ghost use Rattle.laws.specs.Finding.{firstOf};
 ghost use Rattle.reason.specs.Numbers.{findingOf};
 ghost use Rattle.chars.specs.Characters.{capitals};
+ghost use Rattle.chars.specs.Columns.{allowedTest, everyColumn};
 ghost use Rattle.edits.specs.Fields.{ruleOf, noRow, rulesTest, fieldsTest};
 
 // The rule of a number.
@@ -79,6 +83,16 @@ fn rules_edit(
     }
 }
 
+// Where to look for a broken column from: behind the last one, where every column holds what it may; else at the first.
+fn look_from(allowed: Allowed, line: &[u8], first: u16, last: u16) -> u16
+    ensures { λ r. ⌜ everyColumn allowed (capitals (now (line .entry))) first last ≡ firstOf (allowedTest allowed (capitals (now (line .entry)))) r (last - r) ⌝ }
+{
+    if columns::all_hold(allowed, line, first, last) {
+        return last;
+    }
+    chars::index_of(first)
+}
+
 // The first broken column of the first broken field. A row of the list has a field's class, first and last column; the rule beside it, by number,
 // is that of its context.
 pub fn first_broken(
@@ -105,7 +119,7 @@ pub fn first_broken(
             break 'fields;
         }
         let allowed = class::allowed_in(class, line, first, last);
-        let mut at = chars::index_of(first);
+        let mut at = look_from(allowed, line, first, last);
         while at < last {
             let e = columns::column_edit(allowed, line, at + 1);
             if let Edit::Broken(_, _) = e {

@@ -145,7 +145,7 @@ fn rule_edit(
     }
 }
 
-// A field held against its context.
+// A field held against its context. Most fields have no rule, and their value is not read.
 pub fn context_edit(
     rule: Rule,
     marks: Marks,
@@ -157,6 +157,9 @@ pub fn context_edit(
 ) -> Edit
     ensures { λ r. ⌜ findingOf r ≡ firstBroken (withContext rule marks around seen (capitals (now (line .entry))) first last) ⌝ }
 {
+    if let Rule::Nothing = rule {
+        return Edit::Passed;
+    }
     rule_edit(
         rule,
         marks,

@@ -27,3 +27,8 @@ module _ (class : Class) (line : List ℕ) (first last : ℕ) where
       → at ≡ first - 1 → classTest class line first last ≡ firstOf (allowedTest allowed line) at (last - at)
   unfolding classTest
   lead-passes allowed at passed holds start = rw (passed, holds, start) (every-says (allowedIn class line first last) line first last)
+
+  pub lead-leaves : (allowed : Allowed) → leadTest class line first last ≡ fine → allowed ≡ allowedIn class line first last
+      → classTest class line first last ≡ everyColumn allowed line first last
+  unfolding classTest
+  lead-leaves allowed passed holds = rw (passed, holds)

@@ -6,3 +6,4 @@ pub mod Window
 pub mod Once
 pub mod Changed
 pub mod Ends
+pub mod Looking

@@ -1,7 +1,8 @@
 // Cutting the first line off lent bytes, for records of any length.
 use reason::Reason;
 ghost use mathlib.Core.Path.{_≡_};
-ghost use Prim.Native.Nat.{min};
+ghost use Prim.Native.Nat.{_≤_, min};
+ghost use lib.Dec.{ltb};
 ghost use lib.ListN.{length, drop};
 ghost use Rattle.lines.specs.Lines.{isEnd, textOf, endOf, firstLine};
 ghost use Rattle.lines.specs.Cutting.{beyond, cutting, cutOf};
@@ -21,11 +22,40 @@ fn is_end(b: u8) -> bool
     b == 13
 }
 
+// Whether the first line is shorter than n. Every one of n bytes is looked at, so that a compiler can compare several at once.
+fn is_shorter(s: &[u8], n: usize) -> bool
+    ensures { λ r. ⌜ r ≡ ltb (length (textOf (now (s .entry)))) n ⌝ }
+{
+    if s.len() < n {
+        return true;
+    }
+    let mut ended = false;
+    let mut i = 0;
+    while i < n {
+        ended = ended | is_end(s[i]);
+        i += 1;
+    }
+    ended
+}
+
+// Where to look for the end of the first line: at the last of `most` bytes, where the line is as long; else from the first on.
+fn look_from(s: &[u8], most: usize) -> usize
+    ensures { λ r. ⌜ (r ≤ most) × (r ≤ length (textOf (now (s .entry)))) ⌝ }
+{
+    if most == 0 {
+        return 0;
+    }
+    if is_shorter(s, most - 1) {
+        return 0;
+    }
+    most - 1
+}
+
 // The length of the first line, where that is at most `most`: it looks no further.
 pub fn line_length(s: &[u8], most: usize) -> usize
     ensures { λ r. ⌜ r ≡ min (length (textOf (now (s .entry)))) most ⌝ }
 {
-    let mut i = 0;
+    let mut i = look_from(s, most);
     while i < most {
         if s.len() <= i {
             return i;
@@ -39,7 +69,7 @@ pub fn line_length(s: &[u8], most: usize) -> usize
 }
 
 // The length of the line end at a place, 0 where there is none.
-fn end_length(s: &[u8], at: usize) -> usize
+pub fn end_length(s: &[u8], at: usize) -> usize
     ensures { λ r. ⌜ r ≡ length (endOf (drop at (now (s .entry)))) ⌝ }
 {
     if s.len() <= at {

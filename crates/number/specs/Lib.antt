@@ -4,3 +4,4 @@ pub mod ColumnLaws
 pub mod Rules
 pub mod RuleLaws
 pub mod Once
+pub mod AsItStands

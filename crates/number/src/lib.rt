@@ -3,7 +3,8 @@ pub mod rules;
 
 use reason::Reason;
 ghost use mathlib.Core.Path.{_≡_};
-ghost use lib.ListN.{set};
+ghost use Prim.Native.Nat.{min};
+ghost use lib.ListN.{length, set};
 ghost use Rattle.chars.specs.Characters.{capitals};
 ghost use Rattle.number.specs.Numbers.{numberIn, valueIn, putNumber, readingOf};
 
@@ -19,7 +20,17 @@ fn wide(c: u8) -> u64
     c as u64
 }
 
-// The field of columns first to last.
+// How many places of the line stand before the end of a field.
+fn places_before(line: &[u8], last: u16) -> u16
+    ensures { λ r. ⌜ r ≡ min last (length (now (line .entry))) ⌝ }
+{
+    if line.len() < last as usize {
+        return line.len() as u16;
+    }
+    last
+}
+
+// The field of columns first to last. A digit is read as it stands, since nothing becomes one in capitals; behind the line's end there is none.
 pub fn read_number(line: &[u8], first: u16, last: u16) -> Number
     ensures { λ r. ⌜ readingOf r ≡ numberIn (capitals (now (line .entry))) first last ⌝ }
 {
@@ -30,16 +41,20 @@ pub fn read_number(line: &[u8], first: u16, last: u16) -> Number
     if 19 < last - from {
         return Number::Refused(first, Reason::NotDigit);
     }
+    let end = places_before(line, last);
     let mut v: u64 = 0;
     let mut at = from;
-    while at < last {
-        let c = chars::char_at(line, at as usize);
+    while at < end {
+        let c = line[at as usize];
         if chars::is_digit(c) {
             v = v * 10 + (wide(c) - 48);
             at += 1;
         } else {
             return Number::Refused(at + 1, Reason::NotDigit);
         }
+    }
+    if at < last {
+        return Number::Refused(at + 1, Reason::NotDigit);
     }
     Number::Value(v)
 }

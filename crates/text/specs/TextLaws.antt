@@ -1,6 +1,6 @@
 -- The laws of text, of patterns and of addresses.
 use Prim.Native.Nat.{ℕ, _+_, _-_, _<_, _≤_, zero, suc}
-use mathlib.Core.Path.{_≡_, refl, sym, _∙_}
+use mathlib.Core.Path.{_≡_, refl, sym, ap, _∙_}
 use mathlib.Core.Bool.{Bool, true, false, not, _||_}
 use mathlib.Core.List.{List, [], _∷_}
 use native.Mathlib.Nat.{add-zero, not-suc-le-zero}
@@ -11,13 +11,14 @@ use lib.ListN.{length, getD, drop, drop-of-length-le}
 use lib.Seq.{drop-cons, drop-drop, getD-drop}
 use borrow.Author.Tests.{eqb-true, eq-eqb, ne-eqb}
 use Rattle.laws.specs.Choice.{if_then_else_, both-hold}
-use Rattle.laws.specs.Finding.{fine, broken, orElse}
+use Rattle.laws.specs.Finding.{Finding, fine, broken, orElse}
 use Rattle.laws.specs.Numbered.{Between, Within, fine-within, broken-within}
 use Rattle.codes.specs.declared.Region.{Region}
 use Rattle.codes.specs.declared.Region.the-variants.{State, Province, Unknown}
 use Rattle.chars.specs.Agree.{Agree, agree-from}
-use Rattle.chars.specs.Columns.{everyColumn, isFine, unless}
-use Rattle.chars.specs.ColumnLaws.{unless-within}
+use Rattle.chars.specs.Characters.{isBlank}
+use Rattle.chars.specs.Columns.{allowedTest, everyColumn, isFine, unless}
+use Rattle.chars.specs.ColumnLaws.{column-says, unless-within, fine-columns, columns-fine, blank-column}
 use Rattle.chars.specs.declared.columns.Allowed.the-variants.{Blanks}
 use Rattle.text.specs.Address.{stateTest, zipTest, extensionTest}
 use Rattle.text.specs.Text.{allBlank, isIndented, textTest, requiredText, optionalText, isAsked, readsAs, hasPattern, entityTest}
@@ -96,6 +97,60 @@ module _ (line : List ℕ) (first : ℕ) (pattern : List ℕ) (fixed : Fixed pat
 pub all-blank-says : (line : List ℕ) (first last : ℕ) → allBlank line first last ≡ isFine (everyColumn Blanks line first last)
 unfolding allBlank
 all-blank-says line first last = refl
+
+not-broken : (column number : ℕ) → broken column number ≡ fine → ⊥
+not-broken column number e = let z : _≡_ {A = ℕ} 0 1 = cc in omega arith
+
+is-blank : (line : List ℕ) (at : ℕ) → allowedTest Blanks line at ≡ fine → isBlank (getD line at 0) ≡ true
+is-blank line at holds = by (isBlank (getD line at 0)) refl where
+  by : (blank : Bool) → isBlank (getD line at 0) ≡ blank → blank ≡ true
+  by true e = refl
+  by false e = absurd (not-broken (at + 1) 31 (sym (column-says isBlank 31 line at ∙ rw e) ∙ holds))
+
+-- A field of no columns is all blank; of any other, the first column is blank where all are.
+pub blank-of-none : (line : List ℕ) (first last : ℕ) → last ≤ first - 1 → allBlank line first last ≡ true
+unfolding allBlank
+blank-of-none line first last none = ap isFine (columns-fine Blanks line first last (λ k low high. absurd (omega arith)))
+
+pub blank-or-indented : (line : List ℕ) (first last : ℕ) → first - 1 < last → allBlank line first last || isIndented line first ≡ isIndented line first
+unfolding allBlank isIndented
+blank-or-indented line first last some = by (everyColumn Blanks line first last) refl where
+  by : (found : Finding) → everyColumn Blanks line first last ≡ found → isFine found || isIndented line first ≡ isIndented line first
+  by fine e = sym (is-blank line (first - 1) (fine-columns Blanks line first last e (first - 1) (omega arith) some))
+  by (broken column number) e = refl
+
+-- Text, asked first whether there is any from the first column on.
+pub begun-first : (missing : Finding) (line : List ℕ) (first last : ℕ)
+    → textTest missing line first last
+    ≡ (if not (allBlank line first last || isIndented line first) then fine else if allBlank line first last then missing else broken first 33)
+unfolding textTest
+begun-first missing line first last = by (allBlank line first last) (isIndented line first) where
+  by : (blank indented : Bool)
+      → (if blank then missing else if indented then broken first 33 else fine)
+      ≡ (if not (blank || indented) then fine else if blank then missing else broken first 33)
+  by true indented = refl
+  by false true = refl
+  by false false = refl
+
+-- A field whose first column holds ink is not blank, and not indented.
+not-blank : (line : List ℕ) (at : ℕ) → (getD line at 0 ≡ 0x20 → ⊥) → isBlank (getD line at 0) ≡ false
+not-blank line at ink = by (isBlank (getD line at 0)) refl where
+  by : (blank : Bool) → isBlank (getD line at 0) ≡ blank → blank ≡ false
+  by true e = absurd (ink (blank-column line at (column-says isBlank 31 line at ∙ rw e)))
+  by false e = refl
+
+not-fine : (found : Finding) → (found ≡ fine → ⊥) → isFine found ≡ false
+not-fine fine not = absurd (not refl)
+not-fine (broken column number) not = refl
+
+module _ (line : List ℕ) (first last : ℕ) (ink : getD line (first - 1) 0 ≡ 0x20 → ⊥) where
+  pub ink-not-blank : first - 1 < last → allBlank line first last ≡ false
+  unfolding allBlank
+  ink-not-blank h = not-fine (everyColumn Blanks line first last) (λ e. ink (blank-column line (first - 1) (fine-columns Blanks line first last e (first - 1) (omega arith) h)))
+
+  pub ink-not-indented : isIndented line first ≡ false
+  unfolding isIndented
+  ink-not-indented = not-blank line (first - 1) ink
 
 -- ---- required and optional text, edit by edit
 required-tests : (blank indented : Bool) (first : ℕ)

@@ -7,12 +7,13 @@ use chars::columns::Allowed;
 use reason::Edit;
 use reason::Reason;
 ghost use mathlib.Core.Path.{_≡_};
+ghost use mathlib.Core.Bool.{_||_, not};
 ghost use Prim.Native.Nat.{_-_};
 ghost use lib.ListN.{drop};
 ghost use Rattle.reason.specs.Numbers.{findingOf, numberOf};
 ghost use Rattle.chars.specs.Characters.{capitals};
 ghost use Rattle.chars.specs.Columns.{unless};
-ghost use Rattle.text.specs.Text.{allBlank, textTest, requiredText, optionalText, isAsked, readsAs, hasPattern, entityTest};
+ghost use Rattle.text.specs.Text.{allBlank, isIndented, textTest, requiredText, optionalText, isAsked, readsAs, hasPattern, entityTest};
 
 pub fn all_blank(line: &[u8], first: u16, last: u16) -> bool
     ensures { λ r. ⌜ r ≡ allBlank (capitals (now (line .entry))) first last ⌝ }
@@ -24,18 +25,28 @@ pub fn all_blank(line: &[u8], first: u16, last: u16) -> bool
     }
 }
 
+// Whether there is text from the first column on: then the field is neither all blank nor indented, and no other column need be looked at.
+fn is_begun(line: &[u8], first: u16, last: u16) -> bool
+    ensures { λ r. ⌜ r ≡ not (allBlank (capitals (now (line .entry))) first last || isIndented (capitals (now (line .entry))) first) ⌝ }
+{
+    let at = chars::index_of(first);
+    if last <= at {
+        return false;
+    }
+    !chars::is_blank(chars::char_at(line, at as usize))
+}
+
 // Text, with what an all blank field gives.
 fn text(line: &[u8], first: u16, last: u16, missing: Edit) -> Edit
     ensures { λ r. ⌜ findingOf r ≡ textTest (findingOf missing) (capitals (now (line .entry))) first last ⌝ }
 {
+    if is_begun(line, first, last) {
+        return Edit::Passed;
+    }
     if all_blank(line, first, last) {
         return missing;
     }
-    let at = chars::index_of(first);
-    if chars::is_blank(chars::char_at(line, at as usize)) {
-        return Edit::Broken(first, Reason::TextIndented);
-    }
-    Edit::Passed
+    Edit::Broken(first, Reason::TextIndented)
 }
 
 pub fn required(line: &[u8], first: u16, last: u16) -> Edit

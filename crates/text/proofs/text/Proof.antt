@@ -1,25 +1,18 @@
 -- `text::text` meets its contract.
 use mathlib.Core.Path.{sym, _∙_}
 use borrow.Author.Needs.{needs}
-use Rattle.text.specs.Text.{textTest, isIndented}
+use Rattle.text.specs.TextLaws.{begun-first}
 use Rattle.text.proofs.text.Statement.{statement}
 use Rattle.text.proofs.text.Tie as tie
 
-returns : tie.Need-returns
-unfolding textTest isIndented
-returns c = rw (sym (c .before .all-blank .ensures) ∙ c .if1 .taken)
+begun : tie.Need-returns
+begun c = rw (begun-first, sym (c .before .is-begun .ensures) ∙ c .if1 .taken)
 
-returns-2 : tie.Need-returns-2
-unfolding textTest isIndented
-returns-2 c = rw (sym (c .before .before .before .before .before .all-blank .ensures) ∙ c .before .before .before .before .if1 .left, ← c .before .before .before .index-of .ensures, ← c .before .before .char-at .ensures, sym (c .before .is-blank .ensures) ∙ c .if2 .taken)
+blank : tie.Need-returns-2
+blank c = rw (begun-first, sym (c .before .before .before .is-begun .ensures) ∙ c .before .before .if1 .left, sym (c .before .all-blank .ensures) ∙ c .if2 .taken)
 
-returns-3 : tie.Need-returns-3
-unfolding textTest isIndented
-returns-3 c = rw (sym (c .before .before .before .before .before .all-blank .ensures) ∙ c .before .before .before .before .if1 .left, ← c .before .before .before .index-of .ensures, ← c .before .before .char-at .ensures, sym (c .before .is-blank .ensures) ∙ c .if2 .left)
+indented : tie.Need-returns-3
+indented c = rw (begun-first, sym (c .before .before .before .is-begun .ensures) ∙ c .before .before .if1 .left, sym (c .before .all-blank .ensures) ∙ c .if2 .left)
 
 pub text-spec : {M : Type 1} → statement M
-text-spec =
-    tie.close
-    (tie.spec
-    (λ c κs. search needs) returns (λ c κs. search needs) (λ c. search needs) (λ c κs. search needs)
-    (λ c κs. search needs) returns-2 returns-3)
+text-spec = tie.close (tie.spec (λ c κs. search needs) begun (λ c κs. search needs) blank indented)

@@ -8,6 +8,7 @@ use Rattle.reason.specs.Numbers.{findingOf}
 use Rattle.chars.specs.Characters.{capitals}
 use Rattle.chars.specs.Columns.{allowedTest, everyColumn}
 use Rattle.chars.specs.ColumnLaws.{column-of}
+use Rattle.chars.specs.Sweep.{told-fine}
 use Rattle.chars.proofs.columns.every_column.Statement.{statement}
 use Rattle.chars.proofs.columns.every_column.Tie as tie
 
@@ -18,16 +19,19 @@ Inv allowed line first last at₀ at =
 abbrev μ : tie.MeasureT-loop
 μ allowed line first last at₀ at = last - at
 
+all : tie.Need-returns Inv μ
+all c = sym (told-fine _ (sym (c .before .all-hold .ensures) ∙ c .if1 .taken))
+
 holds : tie.Need-loop-holds Inv μ
 unfolding everyColumn
 holds c = rw (c .index-of .ensures)
 
-left : tie.Need-returns Inv μ
+left : tie.Need-returns-2 Inv μ
 left c =
     let told = c .enum-told .given .1 in
     let e = c .before .before .column-edit .ensures in
     let l = c .before .before .before .before .loop in
-    let a = c .before .before .before .before .before .before .before .args in
+    let a = c .before .before .before .before .before .before .before .before .before .args in
     ap findingOf told
     ∙ sym
     (l .inv
@@ -37,7 +41,7 @@ again : tie.Need-loop-again Inv μ
 again c =
     let e = c .before .before .column-edit .ensures in
     let l = c .before .before .before .before .loop in
-    let a = c .before .before .before .before .before .before .before .args in
+    let a = c .before .before .before .before .before .before .before .before .before .args in
     l .inv
     ∙ first-next _ _ _ (c .before .before .before .loop-test .taken)
     (sym (column-of (a .allowed) (capitals (a .line .now)) (l .at)) ∙ sym e ∙ ap findingOf (c .enum-told2 .given .1))
@@ -46,7 +50,7 @@ pub every-column-spec : {M : Type 1} → statement M
 every-column-spec =
     tie.close
     (tie.spec Inv μ
-    (λ c κs. search needs)
+    (λ c κs. search needs) all (λ c κs. search needs)
     holds
     (λ c. search needs) (λ c κs. search needs) (λ c. search needs)
     left

@@ -15,7 +15,7 @@ use Rattle.chars.specs.Characters.{capitals}
 use Rattle.chars.specs.Columns.{allowedTest}
 use Rattle.chars.specs.ColumnLaws.{column-of}
 use Rattle.field.specs.Classes.{classTest}
-use Rattle.field.specs.ClassLaws.{lead-breaks, lead-passes}
+use Rattle.field.specs.ClassLaws.{lead-breaks, lead-leaves}
 use Rattle.edits.specs.Fields.{Around, ruleOf, fieldAt, fieldsTest}
 use Rattle.edits.specs.FieldLaws.{class-breaks, class-passes}
 use Rattle.edits.proofs.fields.first_broken.Statement.{statement}
@@ -44,8 +44,8 @@ fields-holds c = (refl, rw sub-zero)
 loop-holds : tie.Need-loop-holds Inv-loop μ-loop Inv-fields μ-fields
 loop-holds c = (
   c .before .before .before .before .before .before .before .before .fields .inv .0,
-  lead-passes _ _ _ _ _ _ (sym (c .before .before .before .before .lead-edit .ensures) ∙ ap findingOf (c .before .before .enum-told2 .given .1)) (c .before .allowed-in .ensures)
-      (c .index-of .ensures),
+  lead-leaves _ _ _ _ _ (sym (c .before .before .before .before .lead-edit .ensures) ∙ ap findingOf (c .before .before .enum-told2 .given .1)) (c .before .allowed-in .ensures)
+      ∙ c .look-from .ensures,
 )
 
 -- A row of u16 has a last column that fits.
