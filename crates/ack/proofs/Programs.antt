@@ -6,23 +6,26 @@
 --     calls-turn                   the call of `turn`, on the first bytes of the buffer, shared, with both tables
 --     calls-frames                 the call of `frames`, with the list, shared, and the room for frames
 --     lends-after, after-back      a call with the buffer, and the room for frames, shared
+--     sets-array                   a local array `[x; n]` is made. Its length is a variable here, so that no proof computes with that many elements
 --     lends-arrays, arrays-back    four local arrays, which stand first, are lent for good to one call and given back
 --     behind                       what stands behind the first statements of a body
 -- Each step takes `Given`, the rules of the kit's logic.
-use mathlib.Core.Path.{_≡_, refl, _∙_}
+use mathlib.Core.Path.{_≡_, refl, sym, subst, _∙_}
 use Prim.Native.Nat.{ℕ, zero, suc, _≤_}
 use mathlib.Core.Bool.{Bool}
 use mathlib.Core.List.{List, [], _∷_}
-use lib.Dec.{lit<}
+use lib.Dec.{lit<, T as Holds}
 use lib.ListN.{length, replicate}
-use mir.Syntax.{Body, Opd as Operand, Place, w32, tyArray, skip, seq, assign, block, loop, cond, switch, exit, return, call}
+use mir.Syntax.{Ty, Body, Opd as Operand, Place, place, repeat, w32, tyArray, skip, seq, assign, block, loop, cond, switch, exit, return, call}
+use mir.Val.{WT, hasTy}
 use base.Fml.{Fml, fsep, feq, fat, froom, flent}
 use prog.Wp.{Calls, Loops}
-use types.Kit.{Goal, Soaks, Post, lands, Seq}
-use types.Run.{Opds}
+use types.Kit.{Goal, Soaks, Post, lands, nth, put, Seq, Step}
+use types.Run.{Opd, Opds}
 use denote.Builtin.{u8, u32}
 use denote.Array.{arrayVal}
 use denote.Enum.Laws as EL
+use denote.Laws.{Lawful}
 use denote.Lend.{Held}
 use denote.Memory.{lone}
 use denote.Plain.{uint-copy}
@@ -36,7 +39,7 @@ use Rattle.tables.proofs.Employer as T
 use Rattle.tables.proofs.Employer.Laws as T′
 use Rattle.tables.proofs.Entries.{at-rest}
 use Rattle.tables.proofs.Walk.{URA, Heap, Atoms, Given, Memory, Routine, Fun, SProp, Env, Triple, FmC, Item, Lft, Share, GName, RefT, Room, Val, Is, fullShare, named, w8, vint, vbool, flft, runs, ‵, _$_, move, sliceVal, MutSlice, ShrSlice, named-as, holding, KeptAgain, KeptShared}
-use Rattle.tables.proofs.Walk.{Asked, held, made, asks, lends-again, comes-back, lends-shared, shared-back, fronts, front-of, number-copy, array-at, lends-array, array-given, uint-makes, bool-makes}
+use Rattle.tables.proofs.Walk.{spotOf, sets, rep, typed-array, Asked, held, made, asks, lends-again, comes-back, lends-shared, shared-back, fronts, front-of, number-copy, array-at, lends-array, array-given, uint-makes, bool-makes}
 use Rattle.state.specs.declared.State.{State}
 use Rattle.state.proofs.State as S
 use Rattle.state.proofs.State.Laws as S′
@@ -260,6 +263,12 @@ module _ {M : Type 1} {𝓤 : URA M} {H : Heap 𝓤} {A : Atoms 𝓤} {K : Type 
       asks t (frames-call W mem run) known fm
       (((ν₂ ∷ [], (ν₃ ∷ [], tt)), (fullShare, (fullShare, tt)), tt, (st, (named-as (holding (L .list) (l .ys)) δ₂, (named-as (holding (L .out) (l .zs)) δ₃, tt))), (state-val st ∷ [], (val (L .list) ∷ [], (val (L .out) ∷ [], tt)))), tt) tt
       4 (made (LL.makes S.the-type S′.the-plain 𝓤 H A st _ st-is), (held, (held, tt))) refl (os ν₂ ν₃ δ₂ δ₃) (λ fr ws _ fr-is. frames-back t tt L l δ₃ (ws .1 .1 .0) p₂ p₃ (λ same. k fr fr-is (with-frames L l (ws .1 .1 .0) same))))
+
+module _ {M : Type 1} {𝓤 : URA M} {H : Heap 𝓤} {A : Atoms 𝓤} {K : Type 0} {W : Given 𝓤 H A} {Γ : List (Item 𝓤)} {E : Env 𝓤 H} {C : Calls 𝓤 H} {Λ : Loops 𝓤 H} {q : Post 𝓤 H} where
+  pub sets-array : K → {x : ℕ} {o : Operand} {rest : Body} {u : Val} (R : RattleType) (y : R .Denot) → Is R y (u ∷ []) → Lawful 𝓤 H A R → (m : ℕ) → Opd K W Γ E o u → (n : ℕ) → nth 𝓤 H A n Γ ≡ ‵ (froom (spotOf 𝓤 H E x .0) (spotOf 𝓤 H E x .1) zero)
+      → spotOf 𝓤 H E x .0 ≡ tyArray (lone (R .mir)) m
+      → Step K W (put 𝓤 H A n (‵ (fat fullShare (spotOf 𝓤 H E x .0) (spotOf 𝓤 H E x .1) zero (arrayVal (replicate m u)))) Γ) (runs C Λ E rest q) Γ (runs C Λ E (seq (assign (place x []) (repeat o m)) rest) q)
+  sets-array t {u = u} R y is lawful m opd n e ty = sets t (rep t m opd) n e (subst (λ (τ : Ty). Holds (hasTy τ (arrayVal (replicate m u))) × WT (arrayVal (replicate m u))) (sym ty) (typed-array R y u is W lawful m))
 
 -- ---- four local arrays of elements at rest, so many in each, and where they lie
 pub record Sizes : Type 0 where

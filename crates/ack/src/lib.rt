@@ -141,7 +141,7 @@ fn lines_turn(
         last: ended,
     };
     while takes_line(here, bytes.len()) {
-        let a = walk::line_at(st, bytes, here.at, ids, list);
+        let a = walk::lines_at(st, bytes, here.at, ids, list);
         st = a.state;
         here = place_behind(here, a.reply, bytes.len());
     }

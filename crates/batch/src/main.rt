@@ -189,7 +189,7 @@ fn run(buf: &mut [u8], ids: &mut [u32], list: &mut [Employer], out: &mut [u8]) {
 
 // The frames take 35 bytes for each of 1,024 employers, and 35 more.
 fn main() {
-    let mut buf = [0u8; 65536];
+    let mut buf = [0u8; 524288];
     let mut ids = [0u32; 8192];
     let none = Employer {
         fein: 0,

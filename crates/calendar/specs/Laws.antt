@@ -58,6 +58,9 @@ module _ (q : Quarter) (t : isAllowed q ≡ true) where
   unfolding isFilingYear
   allowed-year = within firstYear (q .year) lastYear (parts .0)
 
+  pub allowed-filing : isFilingYear (q .year) ≡ true
+  allowed-filing = both-hold (isFilingYear (q .year)) (leb (q .year) lastYear) (parts .0) .0
+
   pub allowed-month : isQuarterMonth (q .month) ≡ true
   allowed-month = parts .1
 

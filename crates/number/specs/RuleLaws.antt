@@ -74,6 +74,12 @@ pub period-fine : (line : List ℕ) (first last : ℕ) → findingIn (periodIn l
 unfolding periodIn valueIn
 period-fine line first last e = own-passes isQuarterMonth first 40 (numberIn line first last) e
 
+-- And the other way: one that reads as a quarter's month is not refused.
+pub period-passes : (line : List ℕ) (first last month : ℕ) → numberIn line first last ≡ value month → isQuarterMonth month ≡ true
+    → findingIn (periodIn line first last) ≡ fine
+unfolding periodIn
+period-passes line first last month reads quarter = rw (reads, quarter)
+
 pub period-alike : (u v : List ℕ) (first last : ℕ) → Agree u v first last → periodIn u first last ≡ periodIn v first last
 unfolding periodIn
 period-alike u v first last agree = ap (onlyOwn isQuarterMonth first 40) (number-alike u v first last agree)

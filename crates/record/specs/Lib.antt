@@ -15,3 +15,4 @@ pub mod Alike
 pub mod EmployeeLaws
 pub mod Blot
 pub mod Sums
+pub mod EmployeeEdits

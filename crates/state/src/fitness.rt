@@ -16,7 +16,7 @@ pub const MOST_EMPLOYEES: u64 = 100000;
 
 pub const MOST_WAGES: u64 = 99999999999999;
 
-const MOST_LINES: u32 = 231074;
+pub const MOST_LINES: u32 = 231074;
 
 const MOST_FEIN: u64 = 999999999;
 

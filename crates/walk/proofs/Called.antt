@@ -20,6 +20,9 @@ use Rattle.step.proofs.Move as Mv
 use Rattle.step.proofs.Move.Laws as Mv′
 use Rattle.step.proofs.open_move as open-move-fn
 use Rattle.step.proofs.end_move as end-move-fn
+use Rattle.employees.specs.Runs.{leftBy, behind as behindOf}
+use Rattle.employees.proofs.behind as behind-fn
+use Rattle.walk.specs.Runs.{linesStep}
 use Rattle.walk.specs.WholeLaws.{nextPlace}
 use Rattle.walk.specs.Writes.{writesOf}
 use Rattle.walk.specs.declared.Asked.{Asked}
@@ -34,6 +37,7 @@ use Rattle.walk.proofs.asked_at as asked-at-fn
 use Rattle.walk.proofs.move_at as move-at-fn
 use Rattle.walk.proofs.open as open-fn
 use Rattle.walk.proofs.line_at as line-at-fn
+use Rattle.walk.proofs.lines_at as lines-at-fn
 use Rattle.walk.proofs.end as end-fn
 use Rattle.walk.proofs.next_place as next-place-fn
 
@@ -86,6 +90,16 @@ module _ {M : Type 1} {𝓤 : URA M} {H : Heap 𝓤} {A : Atoms 𝓤} (W : Given
   abbrev pub line-at : Callee W
   line-at = total W line-at-fn.ended (line-at-fn.clauses 𝓤 H A mem run) (λ κs a g. id⊢ 𝓤 (emp 𝓤))
       (λ κs a g r ws. outOf r (tables (ws .1 .1 .1 .0) (ws .1 .1 .1 .1 .0)) ≡ lineStep (walkOf (a .0)) (firstLine (drop (a .1 .1 .0) (a .1 .0 .now))) (tables (a .1 .1 .1 .0 .now) (a .1 .1 .1 .1 .0 .now))) (λ κs a g r ws. refl)
+      (λ κs. LL.val An.the-type An′.the-laws) (λ κs. LL.tells An.the-type An′.the-laws)
+
+  abbrev pub behind : Callee W
+  behind = total W behind-fn.ended (behind-fn.clauses 𝓤 H A mem run) (λ κs a g. id⊢ 𝓤 (emp 𝓤))
+      (λ κs a g r ws. leftBy r (ws .1 .1 .1 .0) ≡ behindOf (drop (a .1 .1 .0) (a .1 .0 .now)) (a .1 .1 .1 .1 .0) (leftBy (a .0) (a .1 .1 .1 .0 .now))) (λ κs a g r ws. refl)
+      (λ κs. LL.val An.the-type An′.the-laws) (λ κs. LL.tells An.the-type An′.the-laws)
+
+  abbrev pub lines-at : Callee W
+  lines-at = total W lines-at-fn.ended (lines-at-fn.clauses 𝓤 H A mem run) (λ κs a g. id⊢ 𝓤 (emp 𝓤))
+      (λ κs a g r ws. outOf r (tables (ws .1 .1 .1 .0) (ws .1 .1 .1 .1 .0)) ≡ linesStep (walkOf (a .0)) (drop (a .1 .1 .0) (a .1 .0 .now)) (tables (a .1 .1 .1 .0 .now) (a .1 .1 .1 .1 .0 .now))) (λ κs a g r ws. refl)
       (λ κs. LL.val An.the-type An′.the-laws) (λ κs. LL.tells An.the-type An′.the-laws)
 
   abbrev pub ends : Callee W

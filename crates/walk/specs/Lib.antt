@@ -11,3 +11,5 @@ pub mod TablesAt
 pub mod NeverUnfit
 pub mod Employers
 pub mod AtEnd
+pub mod Runs
+pub mod RunLaws

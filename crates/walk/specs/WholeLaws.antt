@@ -9,7 +9,7 @@ use native.Mathlib.Omega.{arith}
 use lib.Dec.{eqb}
 use lib.ListN.{length, take, drop, length-drop, drop-of-length-le}
 use lib.Seq.{take-all, drop-drop}
-use borrow.Author.Tests.{eq-eqb, ne-eqb, eqb-true, eqb-false}
+use borrow.Author.Tests.{eq-eqb, ne-eqb, eqb-false}
 use Rattle.laws.specs.Choice.{if_then_else_}
 use Rattle.laws.specs.Lists.{behind}
 use Rattle.calendar.specs.declared.Quarter.{Quarter}
@@ -113,7 +113,7 @@ module _ (file : List ℕ) (at : ℕ) (walk : Walk) (t : Tables) (o : Out) (with
   some-left : 0 < length (drop at file)
   some-left = simp length-drop (omega arith)
 
-  loop-refused : o .taken ≡ 0 → calls all 0 (drop at file) walk t ≡ endStep (o .walk) (o .left)
+  pub loop-refused : o .taken ≡ 0 → calls all 0 (drop at file) walk t ≡ endStep (o .walk) (o .left)
   loop-refused none = calls-refused walk t (drop at file) some-left o e none
 
   pub loop-within : at + o .taken ≤ length file
@@ -121,23 +121,7 @@ module _ (file : List ℕ) (at : ℕ) (walk : Walk) (t : Tables) (o : Out) (with
       let taken : o .taken ≤ length (drop at file) = rw e (taken-within walk t (drop at file)) in
       omega (arith, rw length-drop at taken)
 
-  loop-taken : (o .taken ≡ 0 → ⊥) → calls all 0 (drop at file) walk t ≡ calls all 0 (drop (at + o .taken) file) (o .walk) (o .left)
+  pub loop-taken : (o .taken ≡ 0 → ⊥) → calls all 0 (drop at file) walk t ≡ calls all 0 (drop (at + o .taken) file) (o .walk) (o .left)
   loop-taken some =
       calls-taken walk t (drop at file) some-left o e some
       ∙ ap (λ (s : List ℕ). calls all 0 s (o .walk) (o .left)) (drop-drop (o .taken) at file)
-
-  -- After either the loop goes on at the next place, which is the end after a refusal.
-  pub loop-next : calls all 0 (drop at file) walk t ≡ calls all 0 (drop (nextPlace at (o .taken) (length file)) file) (o .walk) (o .left)
-  loop-next = go (eqb (o .taken) 0) refl
-    where
-      go : (none : Bool) → eqb (o .taken) 0 ≡ none → calls all 0 (drop at file) walk t ≡ calls all 0 (drop (if none then length file else (at + o .taken)) file) (o .walk) (o .left)
-      go true is = loop-refused (eqb-true (o .taken) 0 is) ∙ sym (loop-done file (length file) (o .walk) (o .left) (le-refl (length file)))
-      go false is = loop-taken (eqb-false (o .taken) 0 is)
-
-  -- It is farther on, and within the file.
-  pub next-within : (at < nextPlace at (o .taken) (length file)) × (nextPlace at (o .taken) (length file) ≤ length file)
-  next-within = go (eqb (o .taken) 0) refl
-    where
-      go : (none : Bool) → eqb (o .taken) 0 ≡ none → (at < (if none then length file else (at + o .taken))) × ((if none then length file else (at + o .taken)) ≤ length file)
-      go true is = (within, le-refl (length file))
-      go false is = (omega (arith, eqb-false (o .taken) 0 is), loop-within)

@@ -24,6 +24,7 @@ ghost use Rattle.step.specs.Questions.{entriesAsked, idsAsked};
 ghost use Rattle.step.specs.Steps.{idsAfter, listAfter, outOf, openStep, lineStep, endStep};
 ghost use Rattle.walk.specs.Writes.{noWrites, writesOf};
 ghost use Rattle.walk.specs.Calls.{wholeFile};
+ghost use Rattle.walk.specs.Runs.{linesStep};
 ghost use Rattle.walk.specs.WholeLaws.{nextPlace};
 
 // What is written into the employer list: the first so many entries zeroed, a FEIN at a place, a count and cents at a place. A place past the end
@@ -175,6 +176,21 @@ pub fn line(st: State, bytes: &[u8], ids: &mut [u32], list: &mut [Employer]) -> 
     line_at(st, bytes, 0, ids, list)
 }
 
+// One line, and the plain S records right behind it, which one sweep each finds good: what a call for each of them would leave. The bytes taken are
+// those of all of them.
+pub fn lines_at(
+    st: State,
+    bytes: &[u8],
+    at: usize,
+    ids: &mut [u32],
+    list: &mut [Employer],
+) -> Answer
+    ensures { λ r. ⌜ outOf r (tablesOf (now (ids .exit)) (now (list .exit))) ≡ linesStep (walkOf st) (drop at (now (bytes .entry))) (tablesOf (now (ids .entry)) (now (list .entry))) ⌝ }
+{
+    let a = line_at(st, bytes, at, ids, list);
+    employees::behind(a, bytes, at, ids, list.len())
+}
+
 // The end of the input.
 pub fn end(st: State, ids: &mut [u32], list: &mut [Employer]) -> Answer
     ensures { λ r. ⌜ outOf r (tablesOf (now (ids .exit)) (now (list .exit))) ≡ endStep (walkOf st) (tablesOf (now (ids .entry)) (now (list .entry))) ⌝ }
@@ -205,7 +221,7 @@ pub fn whole(held: Quarter, bytes: &[u8], ids: &mut [u32], list: &mut [Employer]
     let mut st = opened.state;
     let mut at = 0;
     while at < bytes.len() {
-        let a = line_at(st, bytes, at, ids, list);
+        let a = lines_at(st, bytes, at, ids, list);
         st = a.state;
         at = next_place(at, a.reply, bytes.len());
     }

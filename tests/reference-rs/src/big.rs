@@ -28,7 +28,7 @@ fn last(draft: &Draft, letter: u8) -> usize {
 }
 
 /// Employees with so many different identity numbers, and zeros strewn between.
-fn employees(rng: &mut Rng, numbers: usize, zeros: usize) -> Vec<(u64, u64)> {
+pub fn employees(rng: &mut Rng, numbers: usize, zeros: usize) -> Vec<(u64, u64)> {
     // An odd step goes through all numbers of 29 bits before one comes again.
     let (start, step) = (rng.below(1 << 29), rng.next() | 1);
     let mut ids: Vec<u64> = (0..)

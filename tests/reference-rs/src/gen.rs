@@ -11,6 +11,7 @@ use crate::edits::Refusal;
 use crate::mutations::{mutated, odd_ends};
 use crate::pieces;
 use crate::rng::Rng;
+use crate::runs;
 use crate::tally::answers;
 
 /// What the maker of a case means it to get.
@@ -85,6 +86,10 @@ const MIXTURE: [Group; 27] = {
 const FULL_TABLE_EVERY: u64 = 800;
 const FULL_TABLE_AT: [u64; 3] = [100, 350, 600];
 
+/// One long run of S records in so many cases, and where it stands among them.
+const RUN_EVERY: u64 = 160;
+const RUN_AT: u64 = 40;
+
 /// From so many cases on each number comes often enough, in any mixture and among long files.
 const ENOUGH_CASES: u64 = 22_000;
 const ENOUGH_LONG_CASES: u64 = 40;
@@ -144,7 +149,7 @@ impl Cases {
             return Some(big::long(&mut rng, index));
         }
         let group = MIXTURE[index as usize % MIXTURE.len()];
-        let at_fixed_place = self.full_table(index);
+        let at_fixed_place = self.full_table(index).or_else(|| self.long_run(index));
         Some(at_fixed_place.unwrap_or_else(|| self.of_group(group)))
     }
 
@@ -161,6 +166,12 @@ impl Cases {
             1 => big::employers_overflow(&mut rng),
             _ => big::full(&mut rng, round),
         })
+    }
+
+    /// So do long runs.
+    fn long_run(&self, index: u64) -> Option<Case> {
+        let wanted = !self.options.small && index % RUN_EVERY == RUN_AT;
+        wanted.then(|| runs::run(&mut Rng::of(self.seed, 52, index)))
     }
 
     fn of_group(&mut self, group: Group) -> Case {

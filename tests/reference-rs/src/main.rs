@@ -50,6 +50,7 @@ mod pieces;
 mod program;
 mod rng;
 mod run;
+mod runs;
 mod scripts;
 mod tables;
 mod tally;

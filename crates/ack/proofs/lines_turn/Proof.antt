@@ -27,16 +27,17 @@ use Rattle.step.proofs.Answer as An
 use Rattle.step.proofs.Answer.Laws as An′
 use Rattle.step.proofs.Reply as R
 use Rattle.step.proofs.Reply.Laws as R′
-use Rattle.walk.specs.WholeLaws.{loop-within, next-within}
+use Rattle.walk.specs.RunLaws.{run-within, run-farther}
 use Rattle.walk.proofs.Values.{state-val, reply-val, reply-at}
-use Rattle.walk.proofs.Called.{line-at, ends as end-call}
-use Rattle.walk.proofs.line_at.Symbol.{name as #line-at, routine as line-at-routine}
-use Rattle.walk.proofs.line_at.Met as line-at-met
+use Rattle.walk.proofs.Called.{lines-at, ends as end-call}
+use Rattle.walk.proofs.lines_at.Symbol.{name as #lines-at, routine as lines-at-routine}
+use Rattle.walk.proofs.lines_at.Met as lines-at-met
 use Rattle.walk.proofs.end.Symbol.{name as #end, routine as end-routine}
 use Rattle.walk.proofs.end.Met as end-met
 use Rattle.ack.specs.Answers.{turnedBy}
 use Rattle.ack.specs.Places.{takesLine}
-use Rattle.ack.specs.TurnLaws.{turnFrom, takes-within, loop-next, loop-ends, loop-stays, turned-ends, turned-stays}
+use Rattle.ack.specs.RunLaws.{run-next}
+use Rattle.ack.specs.TurnLaws.{turnFrom, takes-within, loop-ends, loop-stays, turned-ends, turned-stays}
 use Rattle.ack.specs.Turns.{Turn}
 use Rattle.ack.specs.declared.Place.{Place}
 use Rattle.ack.specs.declared.Turned.{Turned}
@@ -65,7 +66,7 @@ abbrev ends : Ends (f.ended .signature .params) (f.ended .kept)
 ends = (gone (λ κs x f. refl), (gone (λ κs x f. refl), (gone (λ κs x f. refl), (gone (λ κs x f. refl), (kept-slice 1 tt (plain (λ _. u32)), (kept-slice 2 tt (plain (λ _. T.the-row)), tt))))))
 
 module _ {M : Type 1} (𝓤 : URA M) (H : Heap 𝓤) (A : Atoms 𝓤) (W : Given 𝓤 H A) (mem : Memory → SProp 𝓤) (run : Routine → Fun 𝓤) (𝓣 : Tables 𝓤 H)
-    (known-takes : Triple 𝓤 (𝓣 .C #takes-line) (Asked (takes-line W mem run))) (known-line : Triple 𝓤 (𝓣 .C #line-at) (Asked (line-at W mem run))) (known-behind : Triple 𝓤 (𝓣 .C #place-behind) (Asked (place-behind W mem run)))
+    (known-takes : Triple 𝓤 (𝓣 .C #takes-line) (Asked (takes-line W mem run))) (known-lines : Triple 𝓤 (𝓣 .C #lines-at) (Asked (lines-at W mem run))) (known-behind : Triple 𝓤 (𝓣 .C #place-behind) (Asked (place-behind W mem run)))
     (known-end : Triple 𝓤 (𝓣 .C #end) (Asked (end-call W mem run))) (known-finished : Triple 𝓤 (𝓣 .C #finished) (Asked (finished W mem run))) (known-walking : Triple 𝓤 (𝓣 .C #walking) (Asked (walking W mem run)))
     (L : Lent) (opened : State) (begin : Place) (opened-is : Is S.the-row opened (state-val opened ∷ [])) (begin-is : Is P.the-row begin (place-val begin ∷ []))
     (room₀ : Room u8 (length (L .src .now))) (room₁ : Room u32 (length (L .ids .now))) (room₂ : Room T.the-row (length (L .list .now))) (ps : Places (code.function .locals)) where
@@ -174,7 +175,7 @@ module _ {M : Type 1} (𝓤 : URA M) (H : Heap 𝓤) (A : Atoms 𝓤) (W : Given
       lends-both ! tt L (k .xs) (k .ys) (λ ν₁ ν₂ δ₁ δ₂ p₁ p₂.
       move ! (5 ∷ []) $ twice ! u8 (L .κ₀) (L .src) (s₀ ∷ []) $ move ! (6 ∷ 2 ∷ 3 ∷ 0 ∷ 4 ∷ 5 ∷ []) $
       -- [κ₀'s token; ν₁'s; ν₂'s; the bytes; ids; the list; the bytes; what ids keep; what the list keeps; _23 at 9; …]
-      asks ! (line-at W mem run) known-line fm
+      asks ! (lines-at W mem run) known-lines fm
       (((L .κ₀, (ν₁ ∷ [], (ν₂ ∷ [], tt))), (L .q₀, (fullShare, (fullShare, tt))), tt, (k .st, (L .src, (k .here .at, (named-as x₁ δ₁, (named-as x₂ δ₂, tt))))), (state-val (k .st) ∷ [], (s₀ ∷ [], (vint w64 (k .here .at) ∷ [], (s₁ ∷ [], (s₂ ∷ [], tt)))))), tt) tt
       6 (made (LL.makes S.the-type S′.the-plain 𝓤 H A (k .st) _ (k .st-ok)), (held, (made (uint-makes 𝓤 H A W w64 (k .here .at) _ (place-fields .0)), (held, (held, tt))))) refl
       (and-then ! (var ! 41 refl) (and-then ! (var ! 51 refl) (and-then ! (inner ! 39 refl (sub ! 0 refl (whole !))) (and-then ! (var ! 27 refl) (and-then ! (var ! 23 refl) (no-more !)))))) (λ r ws said r-is.
@@ -184,10 +185,10 @@ module _ {M : Type 1} (𝓤 : URA M) (H : Heap 𝓤) (A : Atoms 𝓤) (W : Given
       move ! (1 ∷ 2 ∷ 3 ∷ 4 ∷ 0 ∷ []) $ both-back ! tt L (k .xs) (k .ys) δ₁ δ₂ xs′ ys′ p₁ p₂ (λ same₁ same₂.
       resets ! (of-opd ! (inner ! 34 {τ = S′.mir} {d = 0} refl (sub ! 0 {τ = S′.mir} {d = 0} refl (whole !)))) 38 refl (LL.lawful S.the-type S′.the-laws 𝓤 H A W .typed (r .state) _ (fields .0) .0) $
       resets ! (of-opd ! (inner ! 48 refl (sub ! 1 refl (whole !)))) 28 refl (tt, record { fits = room₀ .0 }) $
-      asks-last ! (place-behind W mem run) known-behind fm ((tt, tt, tt, (k .here, (r .reply, (n, tt))), (place-val (k .here) ∷ [], (reply-val (r .reply) ∷ [], (vint w64 n ∷ [], tt)))), tt) (loop-within bytes (k .here .at) (walkOf (k .st)) t o lt said)
+      asks-last ! (place-behind W mem run) known-behind fm ((tt, tt, tt, (k .here, (r .reply, (n, tt))), (place-val (k .here) ∷ [], (reply-val (r .reply) ∷ [], (vint w64 n ∷ [], tt)))), tt) (run-within bytes (k .here .at) (walkOf (k .st)) t o lt said)
       0 (made (LL.makes P.the-type P′.the-plain 𝓤 H A (k .here) _ (k .here-ok)), (made (EL.makes R.the-type R′.the-plain 𝓤 H A (r .reply) _ (fields .1 .0)), (made (uint-makes 𝓤 H A W w64 n _ (refl, room₀ .0)), tt))) refl
       (and-then ! (var ! 36 refl) (and-then ! (inner ! 34 {τ = R′.mir} {d = reply-at} refl (sub ! 1 {τ = R′.mir} {d = reply-at} refl (whole !))) (and-then ! (var ! 28 refl) (no-more !)))) (λ next _ goes next-is.
-      let farther = next-within bytes (k .here .at) (walkOf (k .st)) t o lt said in
+      let farther = run-farther bytes (k .here .at) (walkOf (k .st)) t o lt said in
       let above : k .here .at < next .at = rw goes (farther .0) in let inside : next .at ≤ n = rw goes (farther .1) in
       land-last ! (from ! (stop !)) (store ! 36 refl (LL.lawful P.the-type P′.the-laws 𝓤 H A W .typed next _ next-is .0)) $
       forget ! 20 refl $ forget ! 22 refl $ forget ! 24 refl $ forget ! 26 refl $ forget ! 28 refl $ forget ! 30 refl $ forget ! 34 refl $
@@ -200,7 +201,7 @@ module _ {M : Type 1} (𝓤 : URA M) (H : Heap 𝓤) (A : Atoms 𝓤) (W : Given
         st-ok = fields .0;
         xs-same = same₁ ∙ k .xs-same;
         ys-same = same₂ ∙ k .ys-same;
-        says = ap (λ (p : Place). turnFrom bytes p (walkOf (r .state)) (tablesOf′ xs′ ys′)) goes ∙ sym (loop-next bytes (k .here) (walkOf (k .st)) t o takes said) ∙ k .says;
+        says = ap (λ (p : Place). turnFrom bytes p (walkOf (r .state)) (tablesOf′ xs′ ys′)) goes ∙ sym (run-next bytes (k .here) (walkOf (k .st)) t o takes said) ∙ k .says;
       }) (omega (arith, above, inside)))))))
       (λ over. exec ! (𝓣 .C) (𝓣 .Λ) En mirs.t-4 (atRet En Post) $ forget ! 28 refl $ forget ! 30 refl $ closes k (sym tells ∙ is-false more over)))
 
@@ -233,7 +234,7 @@ lines-turn-spec 𝓤 H 𝓜 𝓖 𝓡 =
       ),
       λ ps. lose ! 6 $ lose ! 5 $ lose ! 3 $ walk 𝓤 H (𝓖 .A) W (𝓜 .mem) (𝓡 .run) (tablesOf 𝓤 H 𝓜 (tables 𝓤 H 𝓜 𝓡 code.env))
           (cited 𝓤 H (Asked (takes-line W (𝓜 .mem) (𝓡 .run))) 𝓜 𝓡 code.env #takes-line takes-line-routine code.calls-ack·takes-line (takes-line-met.met 𝓤 H 𝓜 𝓖 𝓡))
-          (cited 𝓤 H (Asked (line-at W (𝓜 .mem) (𝓡 .run))) 𝓜 𝓡 code.env #line-at line-at-routine code.calls-walk·line-at (line-at-met.met 𝓤 H 𝓜 𝓖 𝓡))
+          (cited 𝓤 H (Asked (lines-at W (𝓜 .mem) (𝓡 .run))) 𝓜 𝓡 code.env #lines-at lines-at-routine code.calls-walk·lines-at (lines-at-met.met 𝓤 H 𝓜 𝓖 𝓡))
           (cited 𝓤 H (Asked (place-behind W (𝓜 .mem) (𝓡 .run))) 𝓜 𝓡 code.env #place-behind place-behind-routine code.calls-ack·place-behind (place-behind-met.met 𝓤 H 𝓜 𝓖 𝓡))
           (cited 𝓤 H (Asked (end-call W (𝓜 .mem) (𝓡 .run))) 𝓜 𝓡 code.env #end end-routine code.calls-walk·end (end-met.met 𝓤 H 𝓜 𝓖 𝓡))
           (cited 𝓤 H (Asked (finished W (𝓜 .mem) (𝓡 .run))) 𝓜 𝓡 code.env #finished finished-routine code.calls-ack·finished (finished-met.met 𝓤 H 𝓜 𝓖 𝓡))

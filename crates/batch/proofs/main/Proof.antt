@@ -12,9 +12,9 @@ use Rattle.tables.proofs.Employer as T
 use Rattle.tables.proofs.Employer.Laws as T′
 use Rattle.tables.proofs.Entries.{at-rest}
 use Rattle.tables.proofs.Walk.{URA, Heap, Atoms, Given, Memory, Routine, Fun, SProp, Env, Tables, Val, Sq, Triple, Places, Ends, Exit, finishes, proves, locals, envOf, lets-go, var, sets, receives, big-lit, Asked, held, asks, unsaid}
-use Rattle.tables.proofs.Walk.{typed-array, array-at, agg, rep, addr, from, stop, lit, unit-lit, none, fullShare, w8, w32, vint, vunit, spotOf, givenOf, tables, tablesOf, fmOf, runs, atRet}
+use Rattle.tables.proofs.Walk.{array-at, agg, addr, from, stop, lit, unit-lit, none, fullShare, w8, w32, vunit, spotOf, givenOf, tables, tablesOf, fmOf, runs, atRet}
 use Rattle.tables.proofs.Walk.{_$_, !, by, move, look, of-opd, and-then, no-more, returns, nothing-makes, sliceVal, cited}
-use Rattle.ack.proofs.Programs.{Sizes, lends-arrays, arrays-back}
+use Rattle.ack.proofs.Programs.{Sizes, sets-array, lends-arrays, arrays-back}
 use Rattle.batch.proofs.Called.{runs as run-call}
 use Rattle.batch.proofs.run.Symbol.{name as #run, routine as run-routine}
 use Rattle.batch.proofs.run.Met as run-met
@@ -25,7 +25,7 @@ use Rattle.batch.proofs.main.Statement as stated
 
 -- how many elements the arrays have
 abbrev sizes : Sizes
-sizes = record { n₀ = 65536; n₁ = 8192; n₂ = 1024; n₃ = 35875; room₀ = (lit< tt, lit< tt); room₁ = (lit< tt, lit< tt); room₂ = (lit< tt, lit< tt); room₃ = (lit< tt, lit< tt) }
+sizes = record { n₀ = 524288; n₁ = 8192; n₂ = 1024; n₃ = 35875; room₀ = (lit< tt, lit< tt); room₁ = (lit< tt, lit< tt); room₂ = (lit< tt, lit< tt); room₃ = (lit< tt, lit< tt) }
 
 abbrev ends : Ends (f.ended .signature .params) (f.ended .kept)
 ends = tt
@@ -47,10 +47,10 @@ module _ {M : Type 1} (𝓤 : URA M) (H : Heap 𝓤) (A : Atoms 𝓤) (W : Given
   -- [_14 at 0; _13 at 2; _12 at 4; _11 at 6; _10 at 8; _9 at 10; _8 at 12; _7 at 14; _6 at 16; _5 at 18; _4 at 20; _3 at 22; _2 at 24; _1 at 26; _0 at 28]
   walk : Sq W (locals En (none ∷ []) []) (runs (𝓣 .C) (𝓣 .Λ) En (code.function .body) (atRet En Post))
   walk =
-      sets ! (rep ! 65536 (lit ! tt)) 26 refl (typed-array u8 0 (vint w8 0) (refl, lit< tt) W (uint-lawful 𝓤 H A W w8) 65536) $ sets ! (rep ! 8192 (lit ! tt)) 24 refl (typed-array u32 0 (vint w32 0) (refl, lit< tt) W (uint-lawful 𝓤 H A W w32) 8192) $
+      sets-array ! u8 0 (refl, lit< tt) (uint-lawful 𝓤 H A W w8) 524288 (lit ! tt) 26 refl refl $ sets-array ! u32 0 (refl, lit< tt) (uint-lawful 𝓤 H A W w32) 8192 (lit ! tt) 24 refl refl $
       sets ! (agg ! (and-then ! (lit ! tt) (and-then ! (lit ! tt) (and-then ! (lit ! tt) (no-more !))))) 22 refl (LL.lawful T.the-type T′.the-laws 𝓤 H A W .typed noEmployer _ at-rest .0) $
-      sets ! (rep ! 1024 (var ! 22 refl)) 20 refl (typed-array T.the-row noEmployer (T′.lowered noEmployer) at-rest W (LL.lawful T.the-type T′.the-laws 𝓤 H A W) 1024) $
-      sets ! (rep ! 35875 (lit ! tt)) 18 refl (typed-array u8 0 (vint w8 0) (refl, lit< tt) W (uint-lawful 𝓤 H A W w8) 35875) $
+      sets-array ! T.the-row noEmployer at-rest (LL.lawful T.the-type T′.the-laws 𝓤 H A W) 1024 (var ! 22 refl) 20 refl refl $
+      sets-array ! u8 0 (refl, lit< tt) (uint-lawful 𝓤 H A W w8) 35875 (lit ! tt) 18 refl refl $
       sets ! (addr ! (from ! (stop !))) 14 refl (tt, tt) $ sets ! (agg ! (and-then ! (var ! 14 refl) (and-then ! (big-lit ! (record { fits = lit< tt })) (no-more !)))) 12 refl (tt, (tt, (record { fits = lit< tt }, tt))) $
       sets ! (addr ! (from ! (stop !))) 10 refl (tt, tt) $ sets ! (agg ! (and-then ! (var ! 10 refl) (and-then ! (big-lit ! (record { fits = lit< tt })) (no-more !)))) 8 refl (tt, (tt, (record { fits = lit< tt }, tt))) $
       sets ! (addr ! (from ! (stop !))) 6 refl (tt, tt) $ sets ! (agg ! (and-then ! (var ! 6 refl) (and-then ! (big-lit ! (record { fits = lit< tt })) (no-more !)))) 4 refl (tt, (tt, (record { fits = lit< tt }, tt))) $
@@ -62,8 +62,8 @@ module _ {M : Type 1} (𝓤 : URA M) (H : Heap 𝓤) (A : Atoms 𝓤) (W : Given
           (ν₀ ∷ [], (ν₁ ∷ [], (ν₂ ∷ [], (ν₃ ∷ [], tt)))),
           (fullShare, (fullShare, (fullShare, (fullShare, tt)))),
           tt,
-          (array-at (at 1) γ₀ (replicate 65536 0), (array-at (at 2) γ₁ (replicate 8192 0), (array-at (at 4) γ₂ (replicate 1024 noEmployer), (array-at (at 5) γ₃ (replicate 35875 0), tt)))),
-          (sliceVal (at 1, 0) 65536 ∷ [], (sliceVal (at 2, 0) 8192 ∷ [], (sliceVal (at 4, 0) 1024 ∷ [], (sliceVal (at 5, 0) 35875 ∷ [], tt)))),
+          (array-at (at 1) γ₀ (replicate 524288 0), (array-at (at 2) γ₁ (replicate 8192 0), (array-at (at 4) γ₂ (replicate 1024 noEmployer), (array-at (at 5) γ₃ (replicate 35875 0), tt)))),
+          (sliceVal (at 1, 0) 524288 ∷ [], (sliceVal (at 2, 0) 8192 ∷ [], (sliceVal (at 4, 0) 1024 ∷ [], (sliceVal (at 5, 0) 35875 ∷ [], tt)))),
         ),
         tt,
       ) tt

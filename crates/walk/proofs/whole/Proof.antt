@@ -30,13 +30,14 @@ use Rattle.step.proofs.Answer.Laws as An′
 use Rattle.step.proofs.Reply as R
 use Rattle.step.proofs.Reply.Laws as R′
 use Rattle.walk.specs.Calls.{calls, wholeFile}
-use Rattle.walk.specs.WholeLaws.{all, whole-means, loop-done, loop-within, loop-next, next-within}
+use Rattle.walk.specs.WholeLaws.{all, whole-means, loop-done}
+use Rattle.walk.specs.RunLaws.{run-within, run-next, run-farther}
 use Rattle.walk.proofs.Values.{quarter-val, state-val, answer-val, reply-val, reply-at}
-use Rattle.walk.proofs.Called.{opens, line-at, next-place, ends as end-call}
+use Rattle.walk.proofs.Called.{opens, lines-at, next-place, ends as end-call}
 use Rattle.walk.proofs.open.Symbol.{name as #open, routine as open-routine}
 use Rattle.walk.proofs.open.Met as open-met
-use Rattle.walk.proofs.line_at.Symbol.{name as #line-at, routine as line-at-routine}
-use Rattle.walk.proofs.line_at.Met as line-at-met
+use Rattle.walk.proofs.lines_at.Symbol.{name as #lines-at, routine as lines-at-routine}
+use Rattle.walk.proofs.lines_at.Met as lines-at-met
 use Rattle.walk.proofs.next_place.Symbol.{name as #next-place, routine as next-place-routine}
 use Rattle.walk.proofs.next_place.Met as next-place-met
 use Rattle.walk.proofs.end.Symbol.{name as #end, routine as end-routine}
@@ -51,7 +52,7 @@ abbrev ends : Ends (f.ended .signature .params) (f.ended .kept)
 ends = (gone (λ κs x f. refl), (gone (λ κs x f. refl), (given-slice 1 tt (plain (λ _. u32)), (given-slice 2 tt (plain (λ _. T.the-row)), tt))))
 
 module _ {M : Type 1} (𝓤 : URA M) (H : Heap 𝓤) (A : Atoms 𝓤) (W : Given 𝓤 H A) (mem : Memory → SProp 𝓤) (run : Routine → Fun 𝓤) (𝓣 : Tables 𝓤 H) (known-open : Triple 𝓤 (𝓣 .C #open) (Asked (opens W mem run)))
-    (known-line : Triple 𝓤 (𝓣 .C #line-at) (Asked (line-at W mem run))) (known-next : Triple 𝓤 (𝓣 .C #next-place) (Asked (next-place W mem run))) (known-end : Triple 𝓤 (𝓣 .C #end) (Asked (end-call W mem run)))
+    (known-lines : Triple 𝓤 (𝓣 .C #lines-at) (Asked (lines-at W mem run))) (known-next : Triple 𝓤 (𝓣 .C #next-place) (Asked (next-place W mem run))) (known-end : Triple 𝓤 (𝓣 .C #end) (Asked (end-call W mem run)))
     (κ₀ κ₁ κ₂ : Lft) (q₀ q₁ q₂ : Share) (quarter : Quarter) (src : RefT (List ℕ)) (ids : RefT (List ℕ)) (list : RefT (List Employer)) (quarter-is : Is Q.the-row quarter (quarter-val quarter ∷ []))
     (room₀ : Room u8 (length (src .now))) (room₁ : Room u32 (length (ids .now))) (room₂ : Room T.the-row (length (list .now))) (ps : Places (code.function .locals)) where
   abbrev s₀ : Val
@@ -130,7 +131,7 @@ module _ {M : Type 1} (𝓤 : URA M) (H : Heap 𝓤) (A : Atoms 𝓤) (W : Given
       -- [ν₂'s token; the list; what it keeps; ν₁'s; ids; what they keep; κ₀'s; the source; _22 at 8; …]
       move ! (7 ∷ []) $ twice ! u8 κ₀ src (s₀ ∷ []) $ move ! (8 ∷ 5 ∷ 2 ∷ 0 ∷ 6 ∷ 3 ∷ []) $
       -- [κ₀'s token; ν₁'s; ν₂'s; the source; ids; the list; the source; what the list keeps; what ids keep; _22 at 9; …]
-      asks ! (line-at W mem run) known-line fm
+      asks ! (lines-at W mem run) known-lines fm
       (((κ₀, (ν₁ ∷ [], (ν₂ ∷ [], tt))), (q₀, (fullShare, (fullShare, tt))), tt, (k .st, (src, (k .place, (named-as x₁ δ₁, (named-as x₂ δ₂, tt))))), (state-val (k .st) ∷ [], (s₀ ∷ [], (vint w64 (k .place) ∷ [], (s₁ ∷ [], (s₂ ∷ [], tt)))))), tt) tt
       6 (made (LL.makes S.the-type S′.the-plain 𝓤 H A (k .st) _ (k .st-ok)), (held, (made (uint-makes 𝓤 H A W w64 (k .place) _ (refl, omega (arith, lt, room₀ .0))), (held, (held, tt))))) refl
       (and-then ! (var ! 41 refl) (and-then ! (var ! 49 refl) (and-then ! (var ! 39 refl) (and-then ! (var ! 21 refl) (and-then ! (var ! 17 refl) (no-more !)))))) (λ r ws said r-is.
@@ -144,10 +145,10 @@ module _ {M : Type 1} (𝓤 : URA M) (H : Heap 𝓤) (A : Atoms 𝓤) (W : Given
       -- [κ₂'s token; the list; κ₁'s; ids; κ₀'s; the source; _22 at 6; …]
       move ! (4 ∷ 2 ∷ 0 ∷ 5 ∷ 3 ∷ 1 ∷ []) $ resets ! (of-opd ! (inner ! 34 {τ = S′.mir} {d = 0} refl (sub ! 0 {τ = S′.mir} {d = 0} refl (whole !)))) 38 refl (LL.lawful S.the-type S′.the-laws 𝓤 H A W .typed (r .state) _ (fields .0) .0) $
       resets ! (of-opd ! (inner ! 46 refl (sub ! 1 refl (whole !)))) 24 refl (tt, record { fits = room₀ .0 }) $
-      asks-last ! (next-place W mem run) known-next fm ((tt, tt, tt, (k .place, (r .reply, (n, tt))), (vint w64 (k .place) ∷ [], (reply-val (r .reply) ∷ [], (vint w64 n ∷ [], tt)))), tt) (loop-within (src .now) (k .place) (walkOf (k .st)) t o lt said)
+      asks-last ! (next-place W mem run) known-next fm ((tt, tt, tt, (k .place, (r .reply, (n, tt))), (vint w64 (k .place) ∷ [], (reply-val (r .reply) ∷ [], (vint w64 n ∷ [], tt)))), tt) (run-within (src .now) (k .place) (walkOf (k .st)) t o lt said)
       0 (made (uint-makes 𝓤 H A W w64 (k .place) _ (refl, omega (arith, lt, room₀ .0))), (made (EL.makes R.the-type R′.the-plain 𝓤 H A (r .reply) _ (fields .1 .0)), (made (uint-makes 𝓤 H A W w64 n _ (refl, room₀ .0)), tt))) refl
       (and-then ! (var ! 36 refl) (and-then ! (inner ! 34 {τ = R′.mir} {d = reply-at} refl (sub ! 1 {τ = R′.mir} {d = reply-at} refl (whole !))) (and-then ! (var ! 24 refl) (no-more !)))) (λ next _ goes next-is.
-      let farther = next-within (src .now) (k .place) (walkOf (k .st)) t o lt said in
+      let farther = run-farther (src .now) (k .place) (walkOf (k .st)) t o lt said in
       let above : k .place < next = rw goes (farther .0) in let inside : next ≤ n = rw goes (farther .1) in
       land-last ! (from ! (stop !)) (store ! 36 refl (tt, record { fits = next-is .1 })) $
       forget ! 14 refl $ forget ! 16 refl $ forget ! 18 refl $ forget ! 20 refl $ forget ! 22 refl $ forget ! 24 refl $ forget ! 34 refl $
@@ -160,7 +161,7 @@ module _ {M : Type 1} (𝓤 : URA M) (H : Heap 𝓤) (A : Atoms 𝓤) (W : Given
         within = inside;
         xs-same = same₁ ∙ k .xs-same;
         ys-same = same₂ ∙ k .ys-same;
-        says = ap (λ (m : ℕ). calls all 0 (drop m (src .now)) (walkOf (r .state)) (tablesOf′ xs′ ys′)) goes ∙ sym (loop-next (src .now) (k .place) (walkOf (k .st)) t o lt said) ∙ k .says;
+        says = ap (λ (m : ℕ). calls all 0 (drop m (src .now)) (walkOf (r .state)) (tablesOf′ xs′ ys′)) goes ∙ sym (run-next (src .now) (k .place) (walkOf (k .st)) t o lt said) ∙ k .says;
       }) (omega (arith, above, inside)))))))))
       (λ over. exec ! (𝓣 .C) (𝓣 .Λ) En mirs.t-9 (atRet En Post) $ forget ! 22 refl $ forget ! 24 refl $ closes k (nltb→le (k .place) n over))
 
@@ -204,7 +205,7 @@ whole-spec 𝓤 H 𝓜 𝓖 𝓡 =
       (LL.lawful Q.the-type Q′.the-laws 𝓤 H (𝓖 .A) W .typed (a .0) _ (are .0) .0, ((tt, (tt, (record { fits = are .1 .0 .0 .1 .0 }, tt))), ((tt, (tt, (record { fits = are .1 .1 .0 .0 .1 .0 }, tt))), ((tt, (tt, (record { fits = are .1 .1 .1 .0 .0 .1 .0 }, tt))), tt)))),
       λ ps. lose ! 3 $ walk 𝓤 H (𝓖 .A) W (𝓜 .mem) (𝓡 .run) (tablesOf 𝓤 H 𝓜 (tables 𝓤 H 𝓜 𝓡 code.env))
           (cited 𝓤 H (Asked (opens W (𝓜 .mem) (𝓡 .run))) 𝓜 𝓡 code.env #open open-routine code.calls-walk·open (open-met.met 𝓤 H 𝓜 𝓖 𝓡))
-          (cited 𝓤 H (Asked (line-at W (𝓜 .mem) (𝓡 .run))) 𝓜 𝓡 code.env #line-at line-at-routine code.calls-walk·line-at (line-at-met.met 𝓤 H 𝓜 𝓖 𝓡))
+          (cited 𝓤 H (Asked (lines-at W (𝓜 .mem) (𝓡 .run))) 𝓜 𝓡 code.env #lines-at lines-at-routine code.calls-walk·lines-at (lines-at-met.met 𝓤 H 𝓜 𝓖 𝓡))
           (cited 𝓤 H (Asked (next-place W (𝓜 .mem) (𝓡 .run))) 𝓜 𝓡 code.env #next-place next-place-routine code.calls-walk·next-place (next-place-met.met 𝓤 H 𝓜 𝓖 𝓡))
           (cited 𝓤 H (Asked (end-call W (𝓜 .mem) (𝓡 .run))) 𝓜 𝓡 code.env #end end-routine code.calls-walk·end (end-met.met 𝓤 H 𝓜 𝓖 𝓡))
           (κs .0) (κs .1 .0) (κs .1 .1 .0) (qs .0) (qs .1 .0) (qs .1 .1 .0) (a .0) (a .1 .0) (a .1 .1 .0) (a .1 .1 .1 .0) (are .0) (are .1 .0 .0 .1) (are .1 .1 .0 .0 .1) (are .1 .1 .1 .0 .0 .1) ps,

@@ -1,0 +1,11 @@
+-- `employees::with_one` meets its contract.
+use borrow.Author.Needs.{needs}
+use Rattle.employees.proofs.with_one.Statement.{statement}
+use Rattle.employees.proofs.with_one.Tie as tie
+
+returns : tie.Need-returns
+returns c = rw (c .one-used .ensures)
+
+pub with-one-spec : {M : Type 1} → statement M
+with-one-spec =
+    tie.close (tie.spec (λ c. search needs) (λ c. search needs) (λ c. search needs) (λ c. search needs) (λ c. search needs) (λ c κs. search needs) returns)

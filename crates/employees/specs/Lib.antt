@@ -1,0 +1,6 @@
+pub mod Runs
+pub mod Marks
+pub mod RunLaws
+pub mod MarkLaws
+pub mod TurnLaws
+pub mod Carries

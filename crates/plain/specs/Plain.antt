@@ -1,0 +1,80 @@
+-- An S record that one sweep over its columns finds good: each column lies between those of two records, the lowest and the highest that this employer
+-- and A's quarter allow. What the sweep does not find good is only looked at more closely.
+use Prim.Native.Nat.{ℕ, zero, suc, _+_, _*_, _%_}
+use mathlib.Core.Bool.{Bool, true, not, _&&_}
+use mathlib.Core.List.{List}
+use lib.Dec.{eqb, leb}
+use lib.ListN.{length, getD, drop}
+use Rattle.laws.specs.Choice.{if_then_else_}
+use Rattle.laws.specs.Text.{bytes}
+use Rattle.lines.specs.Lines.{endOf}
+use Rattle.calendar.specs.Quarters.{isAllowed}
+use Rattle.calendar.specs.declared.Quarter.{Quarter}
+use Rattle.chars.specs.Characters.{capitals}
+use Rattle.chars.specs.Columns.{everyColumn, isFine}
+use Rattle.chars.specs.declared.columns.Allowed.the-variants.{OfNames}
+use Rattle.number.specs.Numbers.{putNumber}
+use Rattle.number.specs.Rules.{mayBeFiled}
+use Rattle.plain.specs.declared.Sighted.{Sighted}
+
+-- ---- the two records
+-- The first and the last character that each column of an S record may hold, whoever the employer is. A name does not begin with a blank; what else it may
+-- hold is asked apart.
+unfoldable pub lowestOfAll : List ℕ
+lowestOfAll =
+    bytes "S000000000!                   !              000000            00000000000000                                                                 PFML000000000                                                                                                                                       "
+
+unfoldable pub highestOfAll : List ℕ
+highestOfAll =
+    bytes "S999999999zzzzzzzzzzzzzzzzzzzzzzzzzzzzzzzz   999999            99999999999999                                                                 PFML999999999                                                                                                                                       "
+
+-- The period, the year and the employer's FEIN have one value each.
+unfoldable pub ofEmployer : List ℕ → ℕ → Quarter → List ℕ
+ofEmployer record′ fein filed = putNumber (putNumber (putNumber record′ 46 47 (filed .month)) 48 51 (filed .year)) 147 155 fein
+
+abbrev pub lowest : ℕ → Quarter → List ℕ
+lowest fein filed = ofEmployer lowestOfAll fein filed
+
+abbrev pub highest : ℕ → Quarter → List ℕ
+highest fein filed = ofEmployer highestOfAll fein filed
+
+-- Numbers that their columns have room for, and a quarter that S records may name.
+abbrev pub fits : ℕ → Quarter → Bool
+fits fein filed = leb fein 999999999 && isAllowed filed
+
+-- ---- the sweep
+-- Each of the first n columns lies between the two.
+unfoldable pub within : List ℕ → List ℕ → List ℕ → ℕ → Bool
+within low high s zero = true
+within low high s (suc n) = within low high s n && (leb (getD low n 0) (getD s n 0) && leb (getD s n 0) (getD high n 0))
+
+-- n columns from a place on, read as digits without asking whether they are, when those before them read as v.
+unfoldable pub digitsFrom : List ℕ → ℕ → ℕ → ℕ → ℕ
+digitsFrom s v at zero = v
+digitsFrom s v at (suc n) = digitsFrom s (v * 10 + getD s at 0 % 16) (at + 1) n
+
+-- The identity number in columns 2 to 10, and the wages in columns 64 to 77.
+abbrev pub idIn : List ℕ → ℕ
+idIn s = digitsFrom s 0 1 9
+
+abbrev pub wagesIn : List ℕ → ℕ
+wagesIn s = digitsFrom s 0 63 14
+
+-- The bytes of the line end behind 290 columns.
+abbrev pub endSize : List ℕ → ℕ
+endSize s = length (endOf (drop 290 s))
+
+-- The bytes begin with an S record that the sweep finds good; its line end is whole too, whatever follows.
+unfoldable pub isPlain : List ℕ → List ℕ → List ℕ → Bool
+isPlain low high s =
+    leb 292 (length s)
+    && (within low high s 290
+    && (isFine (everyColumn OfNames (capitals s) 11 42)
+    && (not (eqb (endSize s) 0) && mayBeFiled (idIn s))))
+
+-- What is seen of it: the bytes that it and its end take, its identity number and its wages. No bytes: look closer.
+abbrev pub sight : List ℕ → List ℕ → List ℕ → Sighted
+sight low high s =
+    if isPlain low high s
+    then record { taken = 290 + endSize s; id = idIn s; wages = wagesIn s }
+    else record { taken = 0; id = 0; wages = 0 }
