@@ -8,6 +8,7 @@ pub mod Program
 pub mod ProgramLaws
 pub mod Acknowledgement
 pub mod Means
+pub mod Manual
 pub mod Room
 pub mod Once
 pub mod Keep

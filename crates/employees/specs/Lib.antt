@@ -4,3 +4,4 @@ pub mod RunLaws
 pub mod MarkLaws
 pub mod TurnLaws
 pub mod Carries
+pub mod Once

@@ -3,4 +3,5 @@ pub mod Pasted
 pub mod HexLaws
 pub mod Frames
 pub mod FrameLaws
+pub mod FirstByte
 pub mod Parts

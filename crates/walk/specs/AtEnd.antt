@@ -1,5 +1,5 @@
 -- The records of an accepted file were all taken, and the last of them is F.
-use Prim.Native.Nat.{ℕ, _+_}
+use Prim.Native.Nat.{ℕ, _+_, _≤_}
 use mathlib.Core.Bool.{true}
 use mathlib.Core.List.{List, [], _∷_}
 use mathlib.Core.Path.{_≡_, refl, sym, ap, subst, _∙_}
@@ -55,25 +55,31 @@ module _ (room : Room) (held : Quarter) (allowed : isAllowed held ≡ true) (ent
         let rest = more (said ∷ p) (taken-good room held allowed p g line taken said e) (sym (meaning-goes-on room held p line lines taken said e) ∙ ends) in
         subst TakenAll (ap (λ (s : Said). recordsOnto (s ∷ p) lines) is ∙ sym (onto-cons p line lines)) rest
 
--- A refusal's number is one that a refusal leaves in the state.
+-- A refusal of a file has a number from 1 to 65, so it is one that a refusal leaves in the state.
 module _ (room : Room) (held : Quarter) (says : Notice) where
-  same-number : (number line column : ℕ) → refused (notice number line column) ≡ refused says → isLeft number ≡ true → isLeft (says .number) ≡ true
-  same-number number line column e left = let same : number ≡ says .number = cc in rw (sym same) left
+  abbrev Numbered : ℕ → Type 0
+  Numbered number = (1 ≤ number) × (number ≤ 65)
 
-  end-left : (p : List Said) (phase : Phase) → outcomeBy (foundOn (length p + 1) (endTest phase)) p ≡ refused says → isLeft (says .number) ≡ true
-  end-left p BeforeA e = same-number 5 (length p + 1) 1 e (left-number 5 (omega arith, omega arith))
-  end-left p AfterA e = same-number 6 (length p + 1) 1 e (left-number 6 (omega arith, omega arith))
-  end-left p EOpen e = same-number 7 (length p + 1) 1 e (left-number 7 (omega arith, omega arith))
-  end-left p AfterT e = same-number 8 (length p + 1) 1 e (left-number 8 (omega arith, omega arith))
-  end-left p AfterF e = absurd (not-refused _ _ says e)
+  same-number : (number line column : ℕ) → refused (notice number line column) ≡ refused says → Numbered number → Numbered (says .number)
+  same-number number line column e numbered = let same : number ≡ says .number = cc in subst Numbered same numbered
 
-  pub refused-left : (lines : List Line) (p : List Said) → meaningFrom room held p lines ≡ refused says → isLeft (says .number) ≡ true
-  refused-left [] p ends =
-      end-left p (phaseAfter p) (sym (meaning-end room held p ∙ ap (λ (f : Finding). outcomeBy (foundOn (length p + 1) f) p) (end-parts (phaseAfter p))) ∙ ends)
-  refused-left (line ∷ lines) p ends = by (judgeAt room held p line) refl (refused-left lines) where
-    by : (v : Judged) → judgeAt room held p line ≡ v → ((q : List Said) → meaningFrom room held q lines ≡ refused says → isLeft (says .number) ≡ true)
-        → isLeft (says .number) ≡ true
+  end-numbered : (p : List Said) (phase : Phase) → outcomeBy (foundOn (length p + 1) (endTest phase)) p ≡ refused says → Numbered (says .number)
+  end-numbered p BeforeA e = same-number 5 (length p + 1) 1 e (omega arith, omega arith)
+  end-numbered p AfterA e = same-number 6 (length p + 1) 1 e (omega arith, omega arith)
+  end-numbered p EOpen e = same-number 7 (length p + 1) 1 e (omega arith, omega arith)
+  end-numbered p AfterT e = same-number 8 (length p + 1) 1 e (omega arith, omega arith)
+  end-numbered p AfterF e = absurd (not-refused _ _ says e)
+
+  pub refused-numbered : (lines : List Line) (p : List Said) → meaningFrom room held p lines ≡ refused says → Numbered (says .number)
+  refused-numbered [] p ends =
+      end-numbered p (phaseAfter p) (sym (meaning-end room held p ∙ ap (λ (f : Finding). outcomeBy (foundOn (length p + 1) f) p) (end-parts (phaseAfter p))) ∙ ends)
+  refused-numbered (line ∷ lines) p ends = by (judgeAt room held p line) refl (refused-numbered lines) where
+    by : (v : Judged) → judgeAt room held p line ≡ v → ((q : List Said) → meaningFrom room held q lines ≡ refused says → Numbered (says .number))
+        → Numbered (says .number)
     by (refusal column number) e more =
         same-number number (length p + 1) column (sym (meaning-refuses room held p line lines column number e) ∙ ends)
-        (left-number number (refusal-numbered _ _ line column number e))
+        (refusal-numbered _ _ line column number e)
     by (passed taken said) e more = more (said ∷ p) (sym (meaning-goes-on room held p line lines taken said e) ∙ ends)
+
+  pub refused-left : (lines : List Line) (p : List Said) → meaningFrom room held p lines ≡ refused says → isLeft (says .number) ≡ true
+  refused-left lines p ends = left-number (says .number) (refused-numbered lines p ends)

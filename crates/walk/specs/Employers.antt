@@ -38,7 +38,7 @@ module _ (held : Quarter) (file : List ℕ) (t : Tables) where
   abbrev records : List Said
   records = recordsOnto [] (linesOf file)
 
-  reported : (outcome : Outcome) → meaning (roomOf t) held file ≡ outcome → leaves (roomOf t) held records outcome .walk .standing ≡ accepted
+  pub reported : (outcome : Outcome) → meaning (roomOf t) held file ≡ outcome → leaves (roomOf t) held records outcome .walk .standing ≡ accepted
       → Reported file t (leaves (roomOf t) held records outcome)
   reported (meant.accepted entries totals) e ends =
       let is = employers-meant (roomOf t) held file entries totals e in

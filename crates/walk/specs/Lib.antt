@@ -13,3 +13,5 @@ pub mod Employers
 pub mod AtEnd
 pub mod Runs
 pub mod RunLaws
+pub mod RunCalls
+pub mod Manual

@@ -1,10 +1,10 @@
--- `replay::run::print::with_ends` meets its contract.
+-- `replay::with_ends` meets its contract.
 use Prim.Native.Nat.{_-_, _≤_}
 use mathlib.Core.Path.{_≡_}
 use lib.ListN.{length}
 use borrow.Author.Needs.{needs}
-use Rattle.replay.proofs.run.print.with_ends.Statement.{statement}
-use Rattle.replay.proofs.run.print.with_ends.Tie as tie
+use Rattle.replay.proofs.with_ends.Statement.{statement}
+use Rattle.replay.proofs.with_ends.Tie as tie
 
 abbrev Inv-loop : tie.InvT-loop
 Inv-loop s out₀ i₀ out i = (i ≤ length s) × (length out ≡ length out₀)

@@ -1,0 +1,79 @@
+-- The sentence in the manual, of the acknowledgement that the program writes, and how long that is.
+use Prim.Native.Nat.{ℕ, _+_, _*_, _≤_}
+use mathlib.Core.Bool.{Bool, true, false}
+use mathlib.Core.List.{List}
+use mathlib.Core.Path.{_≡_, refl, sym, ap, subst, _∙_}
+use native.Mathlib.Omega.{arith}
+use lib.ListN.{length, drop}
+use Rattle.reason.specs.Numbers.{Notice, notice}
+use Rattle.calendar.specs.Quarters.{isAllowed}
+use Rattle.calendar.specs.declared.Quarter.{Quarter}
+use Rattle.meaning.specs.Employers.{employers-are}
+use Rattle.meaning.specs.Forward.{recordsOf, employersOf, totalsOf}
+use Rattle.meaning.specs.Meaning.{LineEdit, fileEdits, Outcome, accepted, refused, meaning}
+use Rattle.meaning.specs.Theorems.{NoneBroken, FirstBroken, not-refused, accepted-iff, first-is-first}
+use Rattle.frames.specs.FirstByte.{never-both}
+use Rattle.frames.specs.FrameLaws.{refusal-length, within-bound}
+use Rattle.frames.specs.Frames.{refusalFrame, framesOf}
+use Rattle.ack.specs.Acknowledgement.{programRoom, fileFrames, acknowledgement}
+use Rattle.ack.specs.Turns.{headerSize, headerQuarter}
+
+-- "accepted .. with each employer's totals below it": a frame for each E record, with the S records under it, then the closing frame with those of the file.
+abbrev pub acceptedFrames : List ℕ → List ℕ
+acceptedFrames file = framesOf (accepted (employersOf (recordsOf file)) (totalsOf (recordsOf file)))
+
+-- "'refused' gives the first line, column and reason": one frame, that of the first broken edit in the stated order.
+pub record RefusedFirst (edits : List LineEdit) (output : List ℕ) : Type 0 where
+  pub says : Notice
+  pub frame : output ≡ refusalFrame says
+  pub first : FirstBroken edits says
+
+-- What the manual says of a file with these edits, of the output.
+pub record ToldAsInManual (edits : List LineEdit) (file output : List ℕ) : Type 0 where
+  -- "'accepted' means the published edits found nothing": these frames are told exactly if none is broken,
+  pub accepted-none-broken : output ≡ acceptedFrames file → NoneBroken edits
+  pub none-broken-accepted : NoneBroken edits → output ≡ acceptedFrames file
+  -- and any other output is a refusal.
+  pub otherwise-refused : (output ≡ acceptedFrames file → ⊥) → RefusedFirst edits output
+
+module _ (held : Quarter) (file : List ℕ) where
+  abbrev edits : List LineEdit
+  edits = fileEdits programRoom held file
+
+  by-outcome : (outcome : Outcome) → meaning programRoom held file ≡ outcome → ToldAsInManual edits file (framesOf outcome)
+  by-outcome (accepted entries totals) e =
+      let are = employers-are programRoom held file entries totals e in
+      let same : framesOf (accepted entries totals) ≡ acceptedFrames file = rw (are .0, are .1) in
+      record {
+        accepted-none-broken = λ told. accepted-iff programRoom held file .1 entries totals e;
+        none-broken-accepted = λ none-broken. same;
+        otherwise-refused = λ otherwise. absurd (otherwise same);
+      }
+  by-outcome (refused says) e =
+      record {
+        accepted-none-broken = λ told. absurd (never-both (employersOf (recordsOf file)) (totalsOf (recordsOf file)) says told);
+        none-broken-accepted = λ none-broken. absurd (not-refused _ _ says (sym (accepted-iff programRoom held file .0 none-broken) ∙ e));
+        otherwise-refused = λ otherwise. record { says = says; frame = refl; first = first-is-first programRoom held file says e };
+      }
+
+-- The acknowledgement of every input whose header gives a quarter that may be the last closed one says of its file what the manual says.
+pub acknowledged-as-in-manual : (input : List ℕ) → isAllowed (headerQuarter input) ≡ true
+    → ToldAsInManual (fileEdits programRoom (headerQuarter input) (drop headerSize input)) (drop headerSize input) (acknowledgement input)
+acknowledged-as-in-manual input allowed =
+    rw allowed (by-outcome (headerQuarter input) (drop headerSize input) (meaning programRoom (headerQuarter input) (drop headerSize input)) refl)
+
+-- ---- "So no output exceeds 35 bytes for each employer and 35 more."
+outcome-bound : (held : Quarter) (file : List ℕ) (outcome : Outcome) → meaning programRoom held file ≡ outcome
+    → length (framesOf outcome) ≤ 35 * length (employersOf (recordsOf file)) + 35
+outcome-bound held file (accepted entries totals) e =
+    let are = employers-are programRoom held file entries totals e .0 in
+    rw (within-bound (accepted entries totals), are) (omega arith)
+outcome-bound held file (refused says) e = rw (refusal-length says) (omega arith)
+
+file-bound : (held : Quarter) (file : List ℕ) (allowed : Bool) → isAllowed held ≡ allowed → length (fileFrames held file) ≤ 35 * length (employersOf (recordsOf file)) + 35
+file-bound held file true e = rw e (outcome-bound held file (meaning programRoom held file) refl)
+file-bound held file false e = rw (e, refusal-length (notice 70 0 0)) (omega arith)
+
+-- Of every input, whatever it is: the employers are the E records of the file behind its header.
+pub acknowledgement-bound : (input : List ℕ) → length (acknowledgement input) ≤ 35 * length (employersOf (recordsOf (drop headerSize input))) + 35
+acknowledgement-bound input = file-bound (headerQuarter input) (drop headerSize input) (isAllowed (headerQuarter input)) refl

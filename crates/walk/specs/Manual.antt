@@ -1,0 +1,68 @@
+-- The sentence in the manual as one theorem: "'accepted' means the published edits found nothing, with each employer's totals below it; 'refused' gives the
+-- first line, column and reason." Of the calls, whatever each is lent, and of a whole file in one slice.
+use Prim.Native.Nat.{ℕ}
+use mathlib.Core.Bool.{true}
+use mathlib.Core.List.{List, []}
+use mathlib.Core.Path.{_≡_, refl, sym, ap, subst, _∙_}
+use native.Mathlib.Omega.{arith}
+use Rattle.reason.specs.Numbers.{Notice}
+use Rattle.calendar.specs.Quarters.{isAllowed}
+use Rattle.calendar.specs.declared.Quarter.{Quarter}
+use Rattle.lines.specs.Lines.{linesOf}
+use Rattle.tables.specs.Room.{Tables, roomOf}
+use Rattle.meaning.specs.Meaning as meant
+use Rattle.meaning.specs.Meaning.{LineEdit, fileEdits, Outcome, recordsOnto, meaning}
+use Rattle.meaning.specs.Theorems.{NoneBroken, FirstBroken, not-refused, accepted-iff, first-is-first}
+use Rattle.step.specs.Moves.{allWell}
+use Rattle.step.specs.Steps.{Out}
+use Rattle.walk.specs.AtEnd.{refused-numbered}
+use Rattle.walk.specs.Calls.{Lending, walked, leaves, wholeFile}
+use Rattle.walk.specs.Employers.{Reported, reported}
+use Rattle.walk.specs.Means.{walk-means}
+
+-- What the manual says of a file with these edits, of what a caller has at the end.
+pub record AsInManual (edits : List LineEdit) (file : List ℕ) (t : Tables) (o : Out) : Type 0 where
+  -- "'accepted' means the published edits found nothing": it is answered exactly if none is broken,
+  pub accepted-none-broken : o .says ≡ allWell → NoneBroken edits
+  pub none-broken-accepted : NoneBroken edits → o .says ≡ allWell
+  -- "with each employer's totals below it": the employers of the file are then in the list.
+  pub employers : o .says ≡ allWell → Reported file t o
+  -- "'refused' gives the first line, column and reason": any other answer is the first broken edit in the stated order.
+  pub refused-first : (o .says ≡ allWell → ⊥) → FirstBroken edits (o .says)
+
+module _ (held : Quarter) (allowed : isAllowed held ≡ true) (file : List ℕ) (t : Tables) where
+  abbrev edits : List LineEdit
+  edits = fileEdits (roomOf t) held file
+
+  -- A refusal of a file is not the answer of acceptance, whose number is 0.
+  refused-otherwise : (says : Notice) → meaning (roomOf t) held file ≡ meant.refused says → says ≡ allWell → ⊥
+  refused-otherwise says e well =
+      let zero : says .number ≡ 0 = ap (λ (n : Notice). n .number) well in
+      omega (arith, zero, refused-numbered (roomOf t) held says (linesOf file) [] e .0)
+
+  by-outcome : (outcome : Outcome) → meaning (roomOf t) held file ≡ outcome
+      → AsInManual edits file t (leaves (roomOf t) held (recordsOnto [] (linesOf file)) outcome)
+  by-outcome (meant.accepted entries totals) e =
+      let none = accepted-iff (roomOf t) held file .1 entries totals e in
+      record {
+        accepted-none-broken = λ well. none;
+        none-broken-accepted = λ none-broken. refl;
+        employers = λ well. reported held file t (meant.accepted entries totals) e refl;
+        refused-first = λ otherwise. absurd (otherwise refl);
+      }
+  by-outcome (meant.refused says) e =
+      let otherwise = refused-otherwise says e in
+      record {
+        accepted-none-broken = λ well. absurd (otherwise well);
+        none-broken-accepted = λ none-broken. absurd (not-refused _ _ says (sym (accepted-iff (roomOf t) held file .0 none-broken) ∙ e));
+        employers = λ well. absurd (otherwise well);
+        refused-first = λ _. first-is-first (roomOf t) held file says e;
+      }
+
+  -- "Demand 2 takes an opening that isn't refused." Of a whole file in one slice,
+  pub whole-as-in-manual : AsInManual edits file t (wholeFile held file t)
+  whole-as-in-manual = rw allowed (by-outcome (meaning (roomOf t) held file) refl)
+
+  -- and of opening, line calls and one end call, for every lending.
+  pub calls-as-in-manual : (lend : ℕ → ℕ) → Lending lend → AsInManual edits file t (walked lend held file t)
+  calls-as-in-manual lend lending = subst (AsInManual edits file t) (sym (walk-means lend lending held file t)) whole-as-in-manual

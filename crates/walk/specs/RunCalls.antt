@@ -1,0 +1,79 @@
+-- A run is line calls: a line and the plain S records behind it, taken at once, are as many line calls one after the other.
+use Prim.Native.Nat.{ℕ, zero, suc, _+_, _<_}
+use mathlib.Core.Bool.{Bool, true, false}
+use mathlib.Core.List.{List}
+use mathlib.Core.Path.{_≡_, refl, sym, ap, subst, _∙_}
+use native.Mathlib.Nat.{zero-add}
+use native.Mathlib.Omega.{arith}
+use lib.Dec.{eqb}
+use lib.ListN.{drop}
+use borrow.Author.Tests.{eqb-true, eqb-false}
+use Rattle.lines.specs.Lines.{firstLine}
+use Rattle.tables.specs.Room.{Tables}
+use Rattle.state.specs.Walks.{Walk}
+use Rattle.step.specs.Steps.{Out, lineStep}
+use Rattle.walk.specs.Runs.{linesStep}
+use Rattle.walk.specs.RunLaws.{lines-carry, refused-alone}
+
+-- Where a caller stands after some line calls: the bytes taken so far, the state and the tables.
+pub record Stood : Type 0 where
+  pub at : ℕ
+  pub walk : Walk
+  pub left : Tables
+
+-- One line call on the bytes that remain.
+abbrev pub callAt : List ℕ → Stood → Out
+callAt s stood = lineStep (stood .walk) (firstLine (drop (stood .at) s)) (stood .left)
+
+abbrev pub onFrom : Stood → Out → Stood
+onFrom stood o = record { at = stood .at + o .taken; walk = o .walk; left = o .left }
+
+-- So many line calls, each lent the bytes from where the last one ended.
+unfoldable pub lineCalls : List ℕ → Stood → ℕ → Stood
+lineCalls s stood zero = stood
+lineCalls s stood (suc n) = onFrom (lineCalls s stood n) (callAt s (lineCalls s stood n))
+
+-- What is answered is what the last of some line calls in a row leaves, all of them taken.
+pub record AreCalls (s : List ℕ) (from : Stood) (to : Stood) : Type 0 where
+  pub count : ℕ
+  pub ends : lineCalls s from count ≡ to
+  pub taken : (k : ℕ) → k < count → callAt s (lineCalls s from k) .taken ≡ 0 → ⊥
+
+calls-none : (s : List ℕ) (from : Stood) → AreCalls s from from
+unfolding lineCalls
+calls-none s from = record { count = 0; ends = refl; taken = λ k h. absurd (omega arith) }
+
+-- One line call more, that takes its line.
+calls-more : (s : List ℕ) (from to : Stood) (next : Out) → next ≡ callAt s to → (next .taken ≡ 0 → ⊥) → AreCalls s from to → AreCalls s from (onFrom to next)
+unfolding lineCalls
+calls-more s from to next is some before =
+    record {
+      count = suc (before .count);
+      ends = rw (before .ends, is);
+      taken = λ k h. each k (eqb k (before .count)) refl h;
+    }
+  where
+    each : (k : ℕ) (is-last : Bool) → eqb k (before .count) ≡ is-last → k < suc (before .count) → callAt s (lineCalls s from k) .taken ≡ 0 → ⊥
+    each k true e h none = some (ap (λ (o : Out). o .taken) is ∙ ap (λ (stood : Stood). callAt s stood .taken) (sym (before .ends)) ∙ ap (λ (n : ℕ). callAt s (lineCalls s from n) .taken) (sym (eqb-true k (before .count) e)) ∙ none)
+    each k false e h none = before .taken k (omega (arith, h, eqb-false k (before .count) e)) none
+
+module _ (walk : Walk) (s : List ℕ) (t : Tables) where
+  abbrev start : Stood
+  start = record { at = 0; walk = walk; left = t }
+
+  abbrev stands : ℕ → Walk → Tables → Stood
+  stands at w u = record { at = at; walk = w; left = u }
+
+  -- Where its first line is taken, a run ends where line calls end, each of which takes its line;
+  pub a-run-is-line-calls : (lineStep walk (firstLine s) t .taken ≡ 0 → ⊥)
+      → AreCalls s start (stands (linesStep walk s t .taken) (linesStep walk s t .walk) (linesStep walk s t .left))
+  a-run-is-line-calls some =
+      let line = lineStep walk (firstLine s) t in
+      let one = calls-more s start start line refl some (calls-none s start) in
+      lines-carry walk s t (λ at w u. AreCalls s start (stands at w u))
+      (λ at w u next long is more before. calls-more s start (stands at w u) next is more before)
+      some (subst (λ (at : ℕ). AreCalls s start (stands at (line .walk) (line .left))) (zero-add (line .taken)) one)
+
+  -- where it is refused, the run is that one call.
+  pub a-refused-run-is-one-call : lineStep walk (firstLine s) t .taken ≡ 0 → linesStep walk s t ≡ lineStep walk (firstLine s) t
+  a-refused-run-is-one-call none = refused-alone walk s t none
