@@ -1,38 +1,35 @@
 -- built-left-to-walk: "Rules that look at other records or the quarter held stay with the walk", and nothing else does.
-use Prim.Native.Nat.{ℕ, zero, suc, _<_, _≤_}
+use Prim.Native.Nat.{ℕ, _<_, _≤_}
 use mathlib.Core.Bool.{Bool, true, false, false≢true}
 use mathlib.Core.List.{List, [], _∷_, _++_, map}
 use mathlib.Core.Path.{_≡_, refl, sym, ap, _∙_}
-use native.Mathlib.Nat.{not-suc-le-zero, le-of-suc-le-suc}
+use native.Mathlib.Nat.{not-suc-le-zero}
 use native.Mathlib.Omega.{arith}
 use lib.ListN.{length, getD, take}
 use Rattle.laws.specs.Choice.{if_then_else_}
 use Rattle.laws.specs.Finding.{orElse}
-use Rattle.laws.specs.Text.{bytes}
 use Rattle.chars.specs.Characters.{isBlank, capitals}
 use Rattle.chars.specs.CharacterLaws.{capitals-already}
 use Rattle.chars.specs.ColumnLaws.{column-says, blank-column}
-use Rattle.field.specs.Classes.{classOf, class-again}
+use Rattle.field.specs.Classes.{class-again}
 use Rattle.field.specs.declared.class.Class.the-variants.{RecordLetter}
-use Rattle.layout.specs.Fields.{classIn, firstIn, lastIn, noRow}
+use Rattle.layout.specs.Fields.{noRow}
 use Rattle.layout.specs.Rows.{LetterFirst, letters-first}
 use Rattle.edits.specs.Edit.{firstBroken}
-use Rattle.edits.specs.EditLaws.{AllFine, first-cons, first-append}
+use Rattle.edits.specs.EditLaws.{first-cons, first-append}
 use Rattle.edits.specs.ListLaws.{context-left}
 use Rattle.edits.specs.Lists.{fieldEdits, contextEdits}
-use Rattle.edits.specs.Own.{own}
 use Rattle.edits.specs.declared.Context.{Context}
-use Rattle.edits.specs.declared.Marks.{Marks}
 use Rattle.edits.specs.declared.Seen.{Seen}
 use Rattle.record.specs.Judge.{kindOn, rowsFor, around, placedEdits, textEdits}
-use Rattle.record.specs.Kinds.{kindOf, marksOf, isKnown}
+use Rattle.record.specs.Kinds.{kindOf, isKnown}
 use Rattle.record.specs.Letters.{Named, letter-again}
 use Rattle.record.specs.Rules.{rulesFor}
 use Rattle.record.specs.declared.kind.Kind.{Kind}
 use Rattle.record.specs.declared.kind.Kind.the-variants.{Transmitter, Employer, Employee, Total, Final, Unknown}
 use Rattle.build.specs.Building.{building}
 use Rattle.build.specs.FillLaws.{padded-read}
-use Rattle.build.specs.StandLaws.{Each}
+use Rattle.build.specs.StandLaws.{each-at}
 use Rattle.build.specs.Theorems.{Built, given, built-slice, built-passes, field-read-back}
 use Rattle.build.specs.Values.{none, words, valueBy, Filled, formIn, fillRows, trimmed, textIn, asRead}
 
@@ -77,21 +74,12 @@ begins-with line letter low high e = by line (e ∙ rw (same, no-blank letter lo
   by [] e = let z : _≡_ {A = ℕ} 0 1 = cc in absurd (omega arith)
   by (c ∷ l) e = one c (isBlank c) refl e
 
--- ---- the first field, and the own edits of each
+-- ---- the first field
 first-value : (letter : ℕ) (rows : List (List ℕ)) (values texts : List ℕ) → 0 < length rows
     → getD (map (λ (field : Filled). field .value) (fillRows letter rows values texts)) 0 none ≡ valueBy (formIn (getD rows 0 noRow)) letter (getD values 0 0) texts
 unfolding fillRows
 first-value letter [] values texts h = absurd (not-suc-le-zero h)
 first-value letter (row ∷ rows) values texts h = refl
-
-own-at : (letter : ℕ) (marks : Marks) (line : List ℕ) (rows : List (List ℕ)) (values texts : List ℕ)
-    → Each (λ (field : Filled). AllFine (own marks (bytes "PFML") (field .class) line (field .first) (field .last))) (fillRows letter rows values texts)
-    → (k : ℕ) → k < length rows
-    → AllFine (own marks (bytes "PFML") (classOf (classIn (getD rows k noRow))) line (firstIn (getD rows k noRow)) (lastIn (getD rows k noRow)))
-unfolding fillRows
-own-at letter marks line [] values texts all k h = absurd (not-suc-le-zero h)
-own-at letter marks line (row ∷ rows) values texts all zero h = all .0
-own-at letter marks line (row ∷ rows) values texts all (suc k) h = own-at letter marks line rows _ _ (all .1) k (le-of-suc-le-suc h)
 
 -- ---- the theorem
 module _ (letter : ℕ) (values texts out : List ℕ) (known : isKnown (kindOf letter) ≡ true) (built : Built letter values texts out) where
@@ -125,5 +113,5 @@ module _ (letter : ℕ) (values texts out : List ℕ) (known : isKnown (kindOf l
       rw (first-cons, first-cons, passes .1, known)
       (first-append (placedEdits here kind) fields
       ∙ ap (orElse (firstBroken (placedEdits here kind)))
-      (context-left (around here seen kind) line (rowsFor kind) (rulesFor kind) (own-at letter (marksOf kind) line (rowsFor kind) values texts (passes .2)))
+      (context-left (around here seen kind) line (rowsFor kind) (rulesFor kind) (each-at _ letter (rowsFor kind) values texts (passes .2)))
       ∙ sym (first-append (placedEdits here kind) left))

@@ -7,5 +7,6 @@ pub mod TextLaws
 pub mod StandLaws
 pub mod ReadLaws
 pub mod Theorems
+pub mod Account
 pub mod LeftToWalk
 pub mod Example

@@ -1,10 +1,10 @@
 -- The values in the built record: each stands in its own columns as it was put in, and is read back from there.
-use Prim.Native.Nat.{ℕ, _+_, _-_, _^_, _<_, _≤_}
+use Prim.Native.Nat.{ℕ, zero, suc, _+_, _-_, _^_, _<_, _≤_}
 use mathlib.Core.Bool.{Bool, true, false, false≢true}
 use mathlib.Core.List.{List, [], _∷_, _++_, map}
 use mathlib.Core.Logic.{_⊎_, inl, inr}
 use mathlib.Core.Path.{_≡_, refl, sym, ap, subst, _∙_}
-use native.Mathlib.Nat.{min-le-left}
+use native.Mathlib.Nat.{min-le-left, not-suc-le-zero, le-of-suc-le-suc}
 use native.Mathlib.Omega.{arith}
 use lib.Dec.{leb, ltb}
 use lib.ListN.{length, getD, take, drop, length-take, length-drop, length-append, length-replicate, getD-replicate, List·getD-append}
@@ -23,18 +23,36 @@ use Rattle.text.specs.Put.{blanks}
 use Rattle.text.specs.PutLaws.{put-text-elsewhere, put-text-at}
 use Rattle.text.specs.Text.{allBlank}
 use Rattle.text.specs.TextLaws.{all-blank-says}
-use Rattle.layout.specs.Fields.{firstIn, lastIn}
+use Rattle.field.specs.Classes.{classOf}
+use Rattle.layout.specs.Fields.{classIn, firstIn, lastIn, noRow}
 use Rattle.layout.specs.Tiling.{tiles, tiles-first, row-within}
+use Rattle.record.specs.Judge.{rowsFor}
+use Rattle.record.specs.Kinds.{kindOf, isKnown}
 use Rattle.write.specs.PartLaws.{put-keeps, put-none, put-first}
-use Rattle.write.specs.Records.{put, putAll}
+use Rattle.write.specs.Records.{put, putAll, recordOf}
 use Rattle.build.specs.Building.{partBy, partOf}
+use Rattle.build.specs.RowLaws.{rows-tiled}
 use Rattle.build.specs.TextLaws.{trim-blanks}
-use Rattle.build.specs.Values.{Value, amount, none, words, takenBy, formIn, Filled, filled, fillRows, trimmed, textIn}
+use Rattle.build.specs.Values.{Value, amount, none, words, takenBy, formIn, Filled, filled, fillRows, fillRecord, trimmed, textIn}
 
 -- Of every field.
 abbrev pub Each : (Filled → Type 0) → List Filled → Type 0
 Each P [] = Unit {0}
 Each P (field ∷ fields) = P field × Each P fields
+
+-- So of field k, counted from 0, with the class and the columns that its row has.
+pub each-at : (P : Filled → Type 0) (letter : ℕ) (rows : List (List ℕ)) (values texts : List ℕ) → Each P (fillRows letter rows values texts)
+    → (k : ℕ) → k < length rows
+    → P (record {
+      class = classOf (classIn (getD rows k noRow));
+      first = firstIn (getD rows k noRow);
+      last = lastIn (getD rows k noRow);
+      value = getD (map (λ (field : Filled). field .value) (fillRows letter rows values texts)) k none;
+    })
+unfolding fillRows
+each-at P letter [] values texts all k h = absurd (not-suc-le-zero h)
+each-at P letter (row ∷ rows) values texts all zero h = all .0
+each-at P letter (row ∷ rows) values texts all (suc k) h = each-at P letter rows _ _ (all .1) k (le-of-suc-le-suc h)
 
 -- ---- one value
 take-short : (n : ℕ) (text : List ℕ) → length (take n text) ≤ n
@@ -104,10 +122,23 @@ module _ (letter : ℕ) where
       subst (λ (final : List ℕ). Each (λ (f : Filled). Stands (f .first) (f .last) (f .value) final) (field ∷ fillRows letter rows values′ texts′))
       (sym (put-first (partOf field) (map partOf (fillRows letter rows values′ texts′)) line)) (here, rest)
 
+-- Each stands in the record that a letter names.
+pub record-stands : (letter : ℕ) (values texts : List ℕ) → isKnown (kindOf letter) ≡ true
+    → Each (λ (field : Filled). Stands (field .first) (field .last) (field .value) (recordOf (map partOf (fillRecord letter values texts)))) (fillRecord letter values texts)
+record-stands letter values texts known =
+    all-stand letter (rowsFor (kindOf letter)) 1 values texts (blanks 290) (rows-tiled (kindOf letter) known) (omega arith) (length-replicate {A = ℕ} 290 0x20)
+    (λ k low high. getD-replicate {A = ℕ} 290 k 0x20 0 high)
+
 -- ---- reading back
 is-fine : (found : Finding) → isFine found ≡ true → found ≡ fine
 is-fine fine e = refl
 is-fine (broken column number) e = absurd (false≢true e)
+
+-- In a field that is all blank every column is.
+pub blank-columns : (line : List ℕ) (first last : ℕ) → allBlank line first last ≡ true → (k : ℕ) → first - 1 ≤ k → k < last → getD line k 0 ≡ 0x20
+blank-columns line first last blank k low high =
+    let columns = is-fine (everyColumn Blanks line first last) (sym (all-blank-says line first last) ∙ blank) in
+    blank-column line k (fine-columns Blanks line first last columns k low high)
 
 module _ (first last : ℕ) (final : List ℕ) where
   -- A number,
@@ -125,8 +156,7 @@ module _ (first last : ℕ) (final : List ℕ) where
     by : (blank : Bool) → allBlank (capitals final) first last ≡ blank → blank ≡ false
     by false e = refl
     by true e =
-        let columns = is-fine (everyColumn Blanks (capitals final) first last) (sym (all-blank-says (capitals final) first last) ∙ e) in
-        let empty = blank-column (capitals final) (first - 1) (fine-columns Blanks (capitals final) first last columns (first - 1) (omega arith) h) in
+        let empty = blank-columns (capitals final) first last e (first - 1) (omega arith) h in
         let digit = number-digits (capitals final) first last h short v reads (first - 1) (omega arith) h in
         absurd (omega arith)
 

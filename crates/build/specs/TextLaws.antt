@@ -31,7 +31,7 @@ unfolding trimmed
 trim-ink [] c b = rw b
 trim-ink (d ∷ text) c b = rw (trim-ink text c b) (keep-all d text c)
 
-only-blanks : (n : ℕ) → trimmed (blanks n) ≡ []
+pub only-blanks : (n : ℕ) → trimmed (blanks n) ≡ []
 unfolding trimmed
 only-blanks zero = refl
 only-blanks (suc n) = rw (only-blanks n, blank-is)
