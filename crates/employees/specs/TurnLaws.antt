@@ -14,7 +14,7 @@ use Rattle.step.specs.Moves.{walkAfter, changeBy}
 use Rattle.step.specs.Ready.{Ready}
 use Rattle.step.specs.Steps.{idsAfter}
 use Rattle.employees.specs.MarkLaws.{covers-next}
-use Rattle.employees.specs.Marks.{markOf, Covers}
+use Rattle.employees.specs.Marks.{withMark, Covers}
 use Rattle.employees.specs.RunLaws.{parts-await, takes-parts, roomFor, taken-ready, onward, sightAt, takesAt, next, none-left, goes-on, stops, Prepared, prepared-next}
 use Rattle.employees.specs.Runs.{isNew, hasRoom, saidIn, Reached}
 
@@ -32,7 +32,7 @@ abbrev pub isTaken : Sighted → Walk → List ℕ → Bool
 isTaken v walk ids = not (eqb (v .taken) 0) && (hasRoom walk && isNew walk ids (v .id))
 
 -- A run of at most `most` lines from `first` on has come to r, and has at most `left` lines to go.
-pub record Going (bytes low high : List ℕ) (list most left : ℕ) (first r : Reached) (marks : List Bool) : Type 0 where
+pub record Going (bytes low high : List ℕ) (list most left : ℕ) (first r : Reached) (marks : List ℕ) : Type 0 where
   pub prepared : Prepared list low high r
   pub covers : Covers marks (take (r .walk .used) (r .ids))
   pub rest : onward bytes list left r ≡ onward bytes list most first
@@ -50,13 +50,13 @@ module _ (bytes low high : List ℕ) (at : ℕ) (v : Sighted) (seen : v ≡ sigh
       omega arith
 
 -- No line is left to take.
-pub all-taken : (bytes low high : List ℕ) (list most left : ℕ) (first r : Reached) (marks : List Bool) → Going bytes low high list most left first r marks → left ≤ 0
+pub all-taken : (bytes low high : List ℕ) (list most left : ℕ) (first r : Reached) (marks : List ℕ) → Going bytes low high list most left first r marks → left ≤ 0
     → r ≡ onward bytes list most first
 all-taken bytes low high list most left first r marks g none =
     let zero : left ≡ 0 = omega arith in
     sym (ap (λ (n : ℕ). onward bytes list n r) zero ∙ none-left bytes list r) ∙ g .rest
 
-module _ (bytes low high : List ℕ) (list most left : ℕ) (first r : Reached) (marks : List Bool) (g : Going bytes low high list most left first r marks)
+module _ (bytes low high : List ℕ) (list most left : ℕ) (first r : Reached) (marks : List ℕ) (g : Going bytes low high list most left first r marks)
     (v : Sighted) (seen : v ≡ sight low high (drop (r .at) bytes)) where
   sight-is : v ≡ sightAt bytes r
   sight-is = seen ∙ rw (g .prepared .low-is, g .prepared .high-is)
@@ -75,7 +75,7 @@ module _ (bytes low high : List ℕ) (list most left : ℕ) (first r : Reached) 
       rw sight-is (taken-ready list (r .walk) (r .ids) (drop (r .at) bytes) t short)
 
   goes-behind : isTaken v (r .walk) (r .ids) ≡ true → 0 < left
-      → Going bytes low high list most (left - 1) first (behindLine v r) (set marks (markOf (v .id)) true)
+      → Going bytes low high list most (left - 1) first (behindLine v r) (withMark (v .id) marks)
   goes-behind e some =
       let told : takesAt bytes list r ≡ true = takes-is ∙ e in
       let t = takes-parts (roomFor (r .ids) list) (r .walk) (r .ids) (sightAt bytes r) told in
@@ -87,7 +87,7 @@ module _ (bytes low high : List ℕ) (list most left : ℕ) (first r : Reached) 
         rest = sym there ∙ g .rest;
       })
 
-  pub still-going : isTaken v (r .walk) (r .ids) ≡ true → 0 < left → (walk : Walk) (ids : List ℕ) (more : List Bool)
-      → walk ≡ walkAfter (saidIn v) (r .walk) → ids ≡ idsAfter (changeBy (saidIn v) (r .walk)) (r .ids) → more ≡ set marks (markOf (v .id)) true
+  pub still-going : isTaken v (r .walk) (r .ids) ≡ true → 0 < left → (walk : Walk) (ids : List ℕ) (more : List ℕ)
+      → walk ≡ walkAfter (saidIn v) (r .walk) → ids ≡ idsAfter (changeBy (saidIn v) (r .walk)) (r .ids) → more ≡ withMark (v .id) marks
       → Going bytes low high list most (left - 1) first (record { at = r .at + v .taken; walk = walk; ids = ids }) more
   still-going e some walk ids more walked kept marked = rw (walked, kept, marked) (goes-behind e some)

@@ -61,7 +61,7 @@ fn has_room(st: State) -> bool
 }
 
 // The identity number is none, or new and there is room for it. It is looked for only where it is marked.
-fn is_new(ids: &[u32], used: usize, marks: &[bool], id: u64) -> bool
+fn is_new(ids: &[u32], used: usize, marks: &[u8], id: u64) -> bool
     requires { ⌜ (id < 4294967296) × Covers (now marks) (take used (now ids)) ⌝ }
     ensures { λ r. ⌜ r ≡ (eqb id 0 || (ltb used (length (now (ids .entry))) && not (isAmong id (take used (now (ids .entry)))))) ⌝ }
 {
@@ -78,7 +78,7 @@ fn is_new(ids: &[u32], used: usize, marks: &[bool], id: u64) -> bool
 }
 
 // Whether the line is taken by a walk that awaits S records.
-fn takes(st: State, s: Sighted, ids: &[u32], marks: &[bool]) -> bool
+fn takes(st: State, s: Sighted, ids: &[u32], marks: &[u8]) -> bool
     requires { ⌜ (s .id < 4294967296) × Covers (now marks) (take (st .used) (now ids)) ⌝ }
     ensures { λ r. ⌜ r ≡ (not (eqb (s .taken) 0) && (hasRoom (walkOf st) && isNew (walkOf st) (now (ids .entry)) (s .id))) ⌝ }
 {
@@ -147,7 +147,7 @@ fn lines(
     begun: Run,
     bytes: &[u8],
     ids: &mut [u32],
-    marks: &mut [bool],
+    marks: &mut [u8],
     list: usize,
     most: usize,
     low: &[u8; 290],
@@ -187,7 +187,7 @@ fn marked(
     ensures { λ r. ⌜ reachedBy r (now (ids .exit)) ≡ onward (now (bytes .entry)) list most (reachedBy begun (now (ids .entry))) ⌝ }
 {
     let state = begun.state;
-    let mut marks = [false; 262144];
+    let mut marks = [0u8; 32768];
     marks::mark_first(&mut marks, ids, state.used);
     lines(begun, bytes, ids, &mut marks, list, most, low, high)
 }
@@ -229,7 +229,7 @@ fn few_then_many(
 {
     let before = begun.state;
     let few = few_lines(before.used, most);
-    let mut none = [true; 0];
+    let mut none = [0u8; 0];
     let run = lines(begun, bytes, ids, &mut none, list, few, low, high);
     let after = run.state;
     if took_all(before.lines, after.lines, few) {

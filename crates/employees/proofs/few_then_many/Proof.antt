@@ -2,10 +2,14 @@
 use mathlib.Core.Path.{subst, sym, ap, _∙_}
 use borrow.Author.Needs.{needs}
 use borrow.Author.Tests.{eqb-false}
+use Rattle.employees.specs.MarkLaws.{no-marks-cover}
 use Rattle.employees.specs.RunLaws.{Prepared, onward, prepared-run, few-more, few-only}
 use Rattle.employees.specs.Runs.{Reached, reachedBy}
 use Rattle.employees.proofs.few_then_many.Statement.{statement}
 use Rattle.employees.proofs.few_then_many.Tie as tie
+
+lines-requires : tie.Need-lines-requires
+lines-requires c κs = (c .before .before .before .before .before .before .pre, no-marks-cover _)
 
 marked-requires : tie.Need-marked-requires
 marked-requires c κs = let a = c .before .before .before .before .before .before .before .before .before .before .before .before .before .before .args in
@@ -30,7 +34,7 @@ few-then-many-spec =
     (tie.spec
     (λ c κs. search needs)
     (λ c. search needs)
-    (λ c κs. search needs)
+    lines-requires
     (λ c κs. search needs)
     (λ c. search needs)
     marked-requires

@@ -1,14 +1,12 @@
 -- `employees::marks::mark_first` meets its contract. At each turn those passed are marked.
 use Prim.Native.Nat.{_-_, _≤_}
-use mathlib.Core.Bool.{Bool, true}
-use mathlib.Core.List.{List}
 use mathlib.Core.Path.{_≡_, refl, sym, ap, _∙_}
 use native.Mathlib.Omega.{arith}
-use lib.ListN.{length, getD, take, set}
+use lib.ListN.{length, getD, take}
 use lib.Seq.{take-all}
 use borrow.Author.Needs.{needs}
 use Rattle.employees.specs.MarkLaws.{with-none, with-more}
-use Rattle.employees.specs.Marks.{withMarks, markOf}
+use Rattle.employees.specs.Marks.{withMark, withMarks}
 use Rattle.employees.proofs.marks.mark_first.Statement.{statement}
 use Rattle.employees.proofs.marks.mark_first.Tie as tie
 
@@ -36,7 +34,7 @@ loop-again c = let args = c .before .before .before .before .before .before .bef
       omega arith,
       c .before .before .mark .kept .0 ∙ l .inv .1,
       c .before .before .mark .ensures
-          ∙ ap (λ (m : List Bool). set m (markOf (getD (args .ids .now) (l .i) 0)) true) (l .inv .2)
+          ∙ ap (withMark (getD (args .ids .now) (l .i) 0)) (l .inv .2)
           ∙ sym (with-more (args .ids .now) (l .i) (args .marks .now) (c .before .before .before .before .before .if1 .left)),
     )
 
