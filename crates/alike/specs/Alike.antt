@@ -61,6 +61,7 @@ pub record AlikeLines (one other : List Line) : Type 0 where
   pub repeat-alike : map repeats (employers one) ≡ map repeats (employers other)
   pub wages-alike : map wagesOf (employers one) ≡ map wagesOf (employers other)
 
+-- The same of two files. Told by places of the first file alone, as the order has it, it is `AsOrdered` (Ordered.antt), which holds of the same files.
 pub record Alike (one other : List ℕ) : Type 0 where
   pub equal-bytes : blotted one ≡ blotted other
   pub own-one : AllMeet (employees (linesOf one))

@@ -4,6 +4,9 @@ pub mod Rest
 pub mod Onward
 pub mod Lines
 pub mod Employee
+pub mod Ordered
+pub mod OrderedLaws
+pub mod EndHidden
 pub mod Own
 pub mod Hypotheses
 pub mod Pair

@@ -18,6 +18,8 @@ use Rattle.cases.specs.Example.{Change, reads, changed, fileOf, exampleLines}
 use Rattle.alike.specs.Alike.{Alike}
 use Rattle.alike.specs.Employee.{meaning-alike}
 use Rattle.alike.specs.Hypotheses.{EqualBytes, others, together, isMet, met-by, all-met-by}
+use Rattle.alike.specs.Ordered.{AsOrdered}
+use Rattle.alike.specs.OrderedLaws.{alike-ordered}
 
 -- The example with its E, S, S and T a second time, then of another employer.
 abbrev ofAnother : List Change
@@ -58,6 +60,10 @@ pair-accepted = refl
 pub pair-alike : Alike one other
 unfolding computed isMet joined firstBroken blotFrom
 pair-alike = together one other EqualBytes (met-by EqualBytes one other refl) (all-met-by (others EqualBytes) one other refl)
+
+-- as the order says them too,
+pub pair-ordered : AsOrdered one other
+pair-ordered = alike-ordered one other pair-alike
 
 -- and differ: line 3 begins at byte 582, and its column 2 holds 1 in the one file and 3 in the other.
 pub pair-differs : one ≡ other → ⊥

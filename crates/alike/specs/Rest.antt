@@ -44,6 +44,9 @@ meets-line : (line : Line) (lines : List Line) → AllMeet (line ∷ lines) → 
 unfolding AllMeet
 meets-line line lines all = all
 
+pub employee-meets : (line : Line) (lines : List Line) → isEmployee line ≡ true → AllMeet (employees (line ∷ lines)) → MeetsOwn line
+employee-meets line lines is all = meets-line line (employees lines) (rw (← employees-more line lines is) all) .0
+
 pub repeats-more : (earlier : List ℕ) (line : Line) (lines : List Line)
     → repeatsAfter earlier (line ∷ lines) ≡ isAmong (idOf line) earlier ∷ repeatsAfter (earlier ++ (idOf line ∷ [])) lines
 unfolding repeatsAfter
@@ -70,10 +73,10 @@ module _ (one other : Line) (ones others : List Line) (all : AlikeLines (one ∷
     other-is = rw (← employee-alike one other line-alike) is
 
     pub one-meets : MeetsOwn one
-    one-meets = meets-line one (employees ones) (rw (← employees-more one ones is) (all .own-one)) .0
+    one-meets = employee-meets one ones is (all .own-one)
 
     pub other-meets : MeetsOwn other
-    other-meets = meets-line other (employees others) (rw (← employees-more other others other-is) (all .own-other)) .0
+    other-meets = employee-meets other others other-is (all .own-other)
 
 -- ---- behind the line
 abbrev ifSo : {A : Type 0} → Bool → A → List A → List A
@@ -83,7 +86,7 @@ tail-by : {A : Type 0} (so : Bool) (a b : A) (s t : List A) → ifSo so a s ≡ 
 tail-by true a b s t e = heads a b s t e .1
 tail-by false a b s t e = e
 
-own-behind : (line : Line) (lines : List Line) (is : Bool) → isEmployee line ≡ is → AllMeet (employees (line ∷ lines)) → AllMeet (employees lines)
+pub own-behind : (line : Line) (lines : List Line) (is : Bool) → isEmployee line ≡ is → AllMeet (employees (line ∷ lines)) → AllMeet (employees lines)
 own-behind line lines true e all = meets-line line (employees lines) (rw (← employees-more line lines e) all) .1
 own-behind line lines false e all = rw (← employees-same line lines e) all
 

@@ -105,7 +105,22 @@ capitals-already [] all = refl
 capitals-already (c ∷ line) all =
     rw (lt-leb 97 c (all 0 (omega arith))) (ap (λ (l : List ℕ). c ∷ l) (capitals-already line (λ k h. all (suc k) (omega arith))))
 
--- ---- digits and the characters of names are permitted
+-- ---- permitted characters
+pub permitted-span : (c : ℕ) → isPermitted c ≡ true → (0x20 ≤ c) × (c ≤ 0x7e)
+unfolding isPermitted
+permitted-span c p = within 0x20 c 0x7e p
+
+-- A small letter and its capital are both permitted.
+pub capital-permitted : (c : ℕ) → isPermitted (capitalOf c) ≡ isPermitted c
+unfolding isPermitted capitalOf
+capital-permitted c = by (leb 97 c && leb c 122) refl where
+  by : (small : Bool) → leb 97 c && leb c 122 ≡ small → isPermitted (if small then c - 32 else c) ≡ isPermitted c
+  by true e =
+      let w = within 97 c 122 e in
+      rw (le-leb 0x20 (c - 32) (omega arith), le-leb (c - 32) 0x7e (omega arith), le-leb 0x20 c (omega arith), le-leb c 0x7e (omega arith))
+  by false e = refl
+
+-- Digits and the characters of names are permitted.
 permitted-range : (c : ℕ) → 0x20 ≤ c → c ≤ 0x7e → isPermitted c ≡ true
 unfolding isPermitted
 permitted-range c low high = rw (le-leb 0x20 c low, le-leb c 0x7e high)

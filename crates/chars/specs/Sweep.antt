@@ -7,11 +7,11 @@ use native.Mathlib.Nat.{add-zero}
 use native.Mathlib.Omega.{arith}
 use lib.Dec.{eqb, leb}
 use lib.ListN.{length, getD, List·getD-eq-default}
-use borrow.Author.Tests.{le-leb, eq-eqb, ne-eqb, leb-true, leb-false}
+use borrow.Author.Tests.{eq-eqb, ne-eqb, leb-true, leb-false}
 use Rattle.laws.specs.Choice.{if_then_else_, within}
 use Rattle.laws.specs.Finding.{Finding, fine, broken, orElse, firstOf}
 use Rattle.chars.specs.Characters.{isPermitted, capitalOf, capitals, isBlank, isDigit, isLetter, isOfName}
-use Rattle.chars.specs.CharacterLaws.{capital-at, capital-is-digit}
+use Rattle.chars.specs.CharacterLaws.{capital-at, capital-is-digit, capital-permitted}
 use Rattle.chars.specs.Columns.{widthOf, columnTest, allowedTest, everyColumn, isFine}
 use Rattle.chars.specs.ColumnLaws.{every-anything}
 use Rattle.chars.specs.declared.columns.Allowed.{Allowed}
@@ -139,13 +139,8 @@ only-blank c = by (leb 0x20 c) (leb c 0x20) refl refl where
 
 -- A small letter and its capital are both permitted, and both neither blank nor a digit.
 permitted-given : (c : ℕ) → isPermitted (capitalOf c) ≡ isBetween 0x20 0x7e c
-unfolding isPermitted capitalOf
-permitted-given c = by (leb 97 c && leb c 122) refl where
-  by : (small : Bool) → leb 97 c && leb c 122 ≡ small → isPermitted (if small then c - 32 else c) ≡ isBetween 0x20 0x7e c
-  by true e =
-      let w = within 97 c 122 e in
-      rw (le-leb 0x20 (c - 32) (omega arith), le-leb (c - 32) 0x7e (omega arith), le-leb 0x20 c (omega arith), le-leb c 0x7e (omega arith))
-  by false e = refl
+unfolding isPermitted
+permitted-given c = capital-permitted c
 
 blank-given : (c : ℕ) → isBlank (capitalOf c) ≡ isBetween 0x20 0x20 c
 unfolding isBlank capitalOf

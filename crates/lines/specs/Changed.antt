@@ -29,7 +29,7 @@ blank-no-end true b e = refl
 blank-no-end false b e = e
 
 -- The text of a line holds no end.
-text-no-end : (s : List ℕ) → hasNoEnd (textOf s)
+pub text-no-end : (s : List ℕ) → hasNoEnd (textOf s)
 unfolding textOf
 text-no-end [] = tt
 text-no-end (b ∷ s) = at (isEnd b) refl (text-no-end s) where
@@ -38,10 +38,10 @@ text-no-end (b ∷ s) = at (isEnd b) refl (text-no-end s) where
   at false e h = (e, h)
 
 -- ---- the outline of bytes: each end where it stands, and 0 in place of any other byte. A file is cut by its outline alone.
-onlyEnd : ℕ → ℕ
+unfoldable pub onlyEnd : ℕ → ℕ
 onlyEnd b = if isEnd b then b else 0
 
-abbrev outline : List ℕ → List ℕ
+abbrev pub outline : List ℕ → List ℕ
 outline s = map onlyEnd s
 
 -- Of a text without ends only its length is left.
@@ -76,7 +76,7 @@ outline-end [] = refl
 outline-end (b ∷ s) = rw (same-end b .0, same-end b .1, outline-feed s)
 
 -- Where the first line is cut: how long its text is, and its end.
-abbrev cutAt : List ℕ → ℕ × List ℕ
+abbrev pub cutAt : List ℕ → ℕ × List ℕ
 cutAt s = (length (textOf s), firstLine s .ending)
 
 -- Bytes are cut where their outline is.
@@ -89,7 +89,7 @@ outline-cut (b ∷ s) = at (isEnd b) refl (outline-cut s) where
   at false e h = rw (is-same-end b, e) (ap (λ (p : ℕ × List ℕ). (suc (p .0), p .1)) h)
 
 -- So bytes of one outline are cut alike.
-alike-cut : (s t : List ℕ) → outline s ≡ outline t → cutAt s ≡ cutAt t
+pub alike-cut : (s t : List ℕ) → outline s ≡ outline t → cutAt s ≡ cutAt t
 alike-cut s t e = sym (outline-cut s) ∙ ap cutAt e ∙ outline-cut t
 
 -- Bytes put together have the outlines of their parts.
@@ -97,7 +97,7 @@ same-append : (a b c d : List ℕ) → outline a ≡ outline c → outline b ≡
 same-append a b c d e f = rw (map-append onlyEnd a b, map-append onlyEnd c d, e, f)
 
 -- ---- changed lines
-abbrev bytesOf : Line → List ℕ
+abbrev pub bytesOf : Line → List ℕ
 bytesOf line = line .text ++ line .ending
 
 module _ (change : Line → Line) (keeps : Keeps change) where

@@ -25,7 +25,7 @@ endBytes LF = 10 ∷ []
 endBytes CR = 13 ∷ []
 endBytes CRLF = 13 ∷ 10 ∷ []
 
-no-end-at : (b : ℕ) → 13 < b → isEnd b ≡ false
+pub no-end-at : (b : ℕ) → 13 < b → isEnd b ≡ false
 unfolding isEnd
 no-end-at b h = rw (ne-eqb b 10 (λ e. omega arith), ne-eqb b 13 (λ e. omega arith))
 

@@ -5,5 +5,7 @@ pub mod Outcomes
 pub mod Window
 pub mod Once
 pub mod Changed
+pub mod Hidden
+pub mod HiddenLaws
 pub mod Ends
 pub mod Looking

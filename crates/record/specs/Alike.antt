@@ -1,9 +1,8 @@
 -- Two S records that are alike but for the employee, in contexts alike but for the wages: edit by edit they find the same.
-use Prim.Native.Nat.{ℕ, zero, suc, _+_}
+use Prim.Native.Nat.{ℕ, _+_}
 use mathlib.Core.Bool.{Bool, true, false, not, _&&_, _||_}
-use mathlib.Core.List.{List, [], _∷_, _++_}
+use mathlib.Core.List.{List, [], _++_}
 use mathlib.Core.Path.{_≡_, refl, sym, ap, ap₂, _∙_}
-use native.Mathlib.Nat.{add-zero}
 use native.Mathlib.Omega.{arith}
 use lib.Dec.{eqb, leb}
 use lib.ListN.{getD}
@@ -30,6 +29,7 @@ use Rattle.edits.specs.ListLaws.{no-fields}
 use Rattle.edits.specs.declared.Context.{Context}
 use Rattle.edits.specs.declared.Rule.the-variants.{Nothing, YearOfA, PeriodOfA, FeinOfE, IdentityNew}
 use Rattle.edits.specs.declared.Seen.{Seen}
+use Rattle.record.specs.Blot.{blot-at}
 use Rattle.record.specs.Employees.{isPersonal, blotFrom, ownIn, MeetsOwn, idOf, withoutWages}
 use Rattle.record.specs.Judge.{around, headEdits}
 use Rattle.record.specs.Kinds.{marksOf}
@@ -41,12 +41,6 @@ use Rattle.record.specs.declared.kind.Kind.the-variants.{Employee}
 -- The same characters in every column that is not personal.
 abbrev pub Alike : List ℕ → List ℕ → Type 0
 Alike u v = (at : ℕ) → isPersonal (1 + at) ≡ false → getD u at 0 ≡ getD v at 0
-
-blot-at : (text : List ℕ) (column at : ℕ) → isPersonal (column + at) ≡ false → getD (blotFrom column text) at 0 ≡ getD text at 0
-unfolding blotFrom
-blot-at [] column at e = refl
-blot-at (c ∷ text) column zero e = rw (rw add-zero at e)
-blot-at (c ∷ text) column (suc at) e = blot-at text (column + 1) at (let p : column + 1 + at ≡ column + suc at = omega arith in rw p e)
 
 pub blot-alike : (s t : List ℕ) → blotFrom 1 s ≡ blotFrom 1 t → Alike (capitals s) (capitals t)
 blot-alike s t e at p =

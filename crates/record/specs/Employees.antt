@@ -33,6 +33,10 @@ isEmployer line = eqb (length (line .text)) 290 && (eqb (getD (line .text) 0 0) 
 abbrev pub isPersonal : ℕ → Bool
 isPersonal column = (leb 2 column && leb column 42) || (leb 64 column && leb column 77)
 
+-- Whether a column of a line is one of these on an S record.
+abbrev pub isOfEmployee : Line → ℕ → Bool
+isOfEmployee line column = isEmployee line && isPersonal column
+
 -- A text with these columns blotted out; it begins at a column.
 unfoldable pub blotFrom : ℕ → List ℕ → List ℕ
 blotFrom column [] = []
