@@ -1,4 +1,4 @@
--- The places that a turn stops at between its lines.
+-- Follows the code; need not be believed. The places that a turn stops at between its lines.
 use Prim.Native.Nat.{ℕ, _-_}
 use mathlib.Core.Bool.{Bool, _&&_, _||_}
 use lib.Dec.{eqb, ltb, leb}

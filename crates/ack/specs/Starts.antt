@@ -1,4 +1,4 @@
--- How a turn starts, by where the program stands.
+-- Follows the code; need not be believed. How a turn starts, by where the program stands.
 use Prim.Native.Nat.{ℕ, _≤_}
 use mathlib.Core.Bool.{Bool, true, false, _||_, false≢true}
 use mathlib.Core.List.{List}

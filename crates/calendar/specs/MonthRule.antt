@@ -1,4 +1,4 @@
--- The days of a month by rule, with no table.
+-- Follows the code; need not be believed. The days of a month by rule, with no table.
 use Prim.Native.Nat.{ℕ, _+_, _/_, _%_, _≤_}
 use mathlib.Core.Path.{_≡_}
 use lib.Dec.{eqb}

@@ -1,4 +1,5 @@
--- A sweep over columns: whether all of them hold what they may, told by the characters as they stand, before they are read in capitals.
+-- Follows the code; need not be believed. A sweep over columns: whether all of them hold what they may, told by the characters as they stand, before they
+-- are read in capitals.
 use Prim.Native.Nat.{ℕ, zero, suc, _+_, _-_, _<_, _≤_}
 use mathlib.Core.Path.{_≡_, refl, sym, ap, _∙_}
 use mathlib.Core.Bool.{Bool, true, false, _&&_, false≢true}

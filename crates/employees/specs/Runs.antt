@@ -1,4 +1,5 @@
--- A run of S records under one employer, each found good by one sweep, taken one after the other as a call for each of them would take it.
+-- Follows the code; need not be believed. A run of S records under one employer, each found good by one sweep, taken one after the other as a call for
+-- each of them would take it.
 use Prim.Native.Nat.{ℕ, zero, suc, _+_}
 use mathlib.Core.Bool.{Bool, not, _&&_, _||_}
 use mathlib.Core.List.{List}

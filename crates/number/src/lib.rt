@@ -64,10 +64,10 @@ pub fn value_in(line: &[u8], first: u16, last: u16) -> u64
     ensures { λ r. ⌜ r ≡ valueIn (capitals (now (line .entry))) first last ⌝ }
 {
     let n = read_number(line, first, last);
-    match n {
-        Number::Value(v) => v,
-        Number::Refused(_, _) => 0,
-    }
+    let Number::Value(v) = n else {
+        return 0;
+    };
+    v
 }
 
 // A character at a place of the line; behind its end there is none to write.

@@ -1,5 +1,5 @@
--- An S record that one sweep over its columns finds good: each column lies between those of two records, the lowest and the highest that this employer
--- and A's quarter allow. What the sweep does not find good is only looked at more closely.
+-- Follows the code; need not be believed. An S record that one sweep over its columns finds good: each column lies between those of two records, the
+-- lowest and the highest that this employer and A's quarter allow. What the sweep does not find good is only looked at more closely.
 use Prim.Native.Nat.{ℕ, zero, suc, _+_, _*_, _%_}
 use mathlib.Core.Bool.{Bool, true, not, _&&_}
 use mathlib.Core.List.{List}

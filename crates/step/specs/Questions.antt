@@ -1,4 +1,5 @@
--- What a line asks of the tables: an E whether its FEIN stands on an earlier E, an S whether its identity number stands under the open E.
+-- Follows the code; need not be believed. What a line asks of the tables: an E whether its FEIN stands on an earlier E, an S whether its identity number
+-- stands under the open E.
 use Prim.Native.Nat.{ℕ}
 use Rattle.record.specs.declared.kind.Kind.{Kind}
 use Rattle.record.specs.declared.kind.Kind.the-variants.{Transmitter, Employer, Employee, Total, Final, Unknown}

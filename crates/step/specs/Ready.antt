@@ -1,4 +1,4 @@
--- What the arithmetic of a record that passes rests on: no sum wraps.
+-- Follows the code; need not be believed. What the arithmetic of a record that passes rests on: no sum wraps.
 use Prim.Native.Nat.{_+_, _*_, _≤_, _<_, _^_}
 use mathlib.Core.Logic.{_⊎_}
 use mathlib.Core.Path.{_≡_}

@@ -1,4 +1,4 @@
--- A line and the plain S records right behind it, taken at once.
+-- Follows the code; need not be believed. A line and the plain S records right behind it, taken at once.
 use Prim.Native.Nat.{ℕ}
 use mathlib.Core.List.{List}
 use lib.ListN.{length}

@@ -1,4 +1,5 @@
--- A change of the employer list as three writes in a row, each of which may be none: entries zeroed, one entry opened, one entry closed.
+-- Follows the code; need not be believed. A change of the employer list as three writes in a row, each of which may be none: entries zeroed, one entry
+-- opened, one entry closed.
 use Prim.Native.Nat.{ℕ, _≤_}
 use mathlib.Core.List.{List}
 use mathlib.Core.Path.{_≡_}
