@@ -16,3 +16,4 @@ pub mod EmployeeLaws
 pub mod Blot
 pub mod Sums
 pub mod EmployeeEdits
+pub mod Once
