@@ -9,11 +9,10 @@ use lib.Dec.{eqb, ltb}
 use lib.ListN.{length, getD, length-replicate, getD-replicate}
 use borrow.Author.Tests.{eqb-true, eq-eqb, ltb-true, ltb-false}
 use Rattle.laws.specs.Finding.{Finding, fine, broken, Reading, value, refused}
-use Rattle.laws.specs.Numbered.{Within, within-says}
 use Rattle.laws.specs.Text.{bytes}
 use Rattle.reason.specs.Numbers.{Notice, notice}
 use Rattle.chars.specs.Columns.{widthOf, allowedTest, everyColumn}
-use Rattle.chars.specs.ColumnLaws.{unless-fine, unless-within, every-within, fine-columns, columns-fine}
+use Rattle.chars.specs.ColumnLaws.{unless-fine, unless-labelled, permitted-labelled, fine-columns, columns-fine}
 use Rattle.chars.specs.declared.columns.Allowed.the-variants.{Permitted}
 use Rattle.text.specs.Put.{blanks}
 use Rattle.number.specs.Numbers.{numberIn}
@@ -21,7 +20,8 @@ use Rattle.layout.specs.Fields.{firstIn, lastIn, noRow}
 use Rattle.layout.specs.Tiling.{tiles, tiles-none, tiles-first}
 use Rattle.edits.specs.Edit.{Edit, firstBroken}
 use Rattle.edits.specs.EditLaws.{AllFine, fine-all, all-fine, all-append, FirstIn, first-of-list}
-use Rattle.edits.specs.Numbered.{AllWithin, none-within, more-within, all-within-append, first-broken-within, own-within}
+use Rattle.edits.specs.Labelled.{own-labelled}
+use Rattle.edits.specs.Labels.{AllLabelled, none-labelled, more-labelled, labelled-append}
 use Rattle.edits.specs.Own.{own}
 use Rattle.edits.specs.declared.Marks.{Marks}
 use Rattle.record.specs.Judge.{rowsFor}
@@ -39,32 +39,29 @@ use Rattle.build.specs.Values.{amount, none, Filled, formIn, fillRows, f
 use Rattle.build.specs.declared.form.Form.{Form}
 use Rattle.build.specs.declared.form.Form.the-variants.{Amount}
 
--- ---- the numbers of the refusals: none is 0, "accepted"
+-- ---- the labels of the refusals
 module _ (marks : Marks) (line : List ℕ) where
-  fields-within : (fields : List Filled) → AllWithin 3 85 (editsOfAll marks line fields)
+  given-labelled : (fields : List Filled) → AllLabelled (editsOfAll marks line fields)
   unfolding editsOfAll
-  fields-within [] = none-within 3 85
-  fields-within (field ∷ fields) =
+  given-labelled [] = none-labelled
+  given-labelled (field ∷ fields) =
       let first = field .first in
       let last = field .last in
       let fits = fitsIn (widthOf first last) (field .value) in
       let these =
-      more-within 3 85 _ _ (unless-within 3 85 fits first 85 (omega arith, omega arith))
-      (more-within 3 85 _ _ (every-within 3 85 (omega arith, omega arith) (omega arith, omega arith) Permitted line first last)
-      (own-within 3 85 (omega arith) (omega arith) marks (bytes "PFML") (field .class) line first last)) in
-      all-within-append 3 85 (filledEdits marks line field) (editsOfAll marks line fields) these (fields-within fields)
+      more-labelled _ _ (unless-labelled fits first 85) refl refl
+      (more-labelled _ _ (permitted-labelled line first last) tt refl (own-labelled marks (bytes "PFML") (field .class) line first last)) in
+      labelled-append (filledEdits marks line field) (editsOfAll marks line fields) these (given-labelled fields)
 
-all-within : (marks : Marks) (fields : List Filled) (size : ℕ) → Within 3 85 (firstBroken (buildEdits marks fields size))
-all-within marks fields size =
-    first-broken-within 3 85 (buildEdits marks fields size)
-    (more-within 3 85 _ _ (unless-within 3 85 (eqb size 290) 0 84 (omega arith, omega arith)) (fields-within marks (padded fields) fields))
+-- What an edit of a call that builds a record finds is told by its label.
+pub build-labelled : (marks : Marks) (fields : List Filled) (size : ℕ) → AllLabelled (buildEdits marks fields size)
+build-labelled marks fields size = more-labelled _ _ (unless-labelled (eqb size 290) 0 84) refl refl (given-labelled marks (padded fields) fields)
 
-says-fine : (found : Finding) (line out : List ℕ) → Within 3 85 found → builtBy found line out .says ≡ allWell → found ≡ fine
-says-fine fine line out within says = refl
-says-fine (broken column number) line out within says =
-    let zero : number ≡ 0 = ap (λ (n : Notice). n .number) says in
-    let low = within-says 3 85 (broken column number) within column number refl in
-    absurd (omega arith)
+-- None is 0, "accepted".
+says-fine : (found : Finding) (line out : List ℕ) → ((column number : ℕ) → found ≡ broken column number → number ≡ 0 → ⊥)
+    → builtBy found line out .says ≡ allWell → found ≡ fine
+says-fine fine line out some says = refl
+says-fine (broken column number) line out some says = absurd (some column number refl (ap (λ (n : Notice). n .number) says))
 
 -- ---- of every field
 each-more : (P Q : Filled → Type 0) (fields : List Filled) → ((field : Filled) → P field → Q field) → Each P fields → Each Q fields
@@ -145,18 +142,22 @@ module _ (letter : ℕ) (values texts out : List ℕ) where
 
   no-edit : Built letter values texts out → firstBroken (buildEdits marksFor given (length out)) ≡ fine
   unfolding building
-  no-edit built = says-fine (firstBroken (buildEdits marksFor given (length out))) (padded given) out (all-within marksFor given (length out)) built
+  no-edit built =
+      let edits = buildEdits marksFor given (length out) in
+      says-fine (firstBroken edits) (padded given) out
+      (λ column number e. first-of-list edits (build-labelled marksFor given (length out)) column number e .by-label .not-accepted) built
 
   -- Then the slice is the padded record.
   pub built-slice : Built letter values texts out → building letter values texts out .out ≡ padded given
   unfolding building
   built-slice built = rw (no-edit built)
 
-  -- A refusal is the first broken edit in the stated order, and the slice is then as it was.
+  -- A refusal is the first broken edit in the stated order, told by its label, and the slice is then as it was.
   pub refused-first : (column number : ℕ) → firstBroken (buildEdits marksFor given (length out)) ≡ broken column number
       → (building letter values texts out ≡ record { says = notice number 0 column; out = out }) × FirstIn (buildEdits marksFor given (length out)) column number
   unfolding building
-  refused-first column number e = (rw e, first-of-list (buildEdits marksFor given (length out)) column number e)
+  refused-first column number e =
+      (rw e, first-of-list (buildEdits marksFor given (length out)) (build-labelled marksFor given (length out)) column number e)
 
   -- turned-away-iff: it is built exactly if the slice has 290 bytes and every value passes; so it is turned away exactly if the slice has another
   -- length, or a value is too long for its field, or it holds a bad character, or the field's own rules refuse the padded result.

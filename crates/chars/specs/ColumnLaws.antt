@@ -8,8 +8,8 @@ use lib.ListN.{getD}
 use borrow.Author.Tests.{eqb-true, le-leb}
 use Rattle.laws.specs.Choice.{if_then_else_}
 use Rattle.laws.specs.Finding.{fine, broken, firstOf}
-use Rattle.laws.specs.First.{none-is-broken, finds-nothing}
-use Rattle.laws.specs.Numbered.{Between, Within, fine-within, broken-within, choice-within, first-within}
+use Rattle.laws.specs.First.{first-is-first, none-is-broken, finds-nothing}
+use Rattle.laws.specs.Labelled.{Labelled, labelled-says, says-labelled, fine-labelled, broken-labelled}
 use Rattle.chars.specs.CharacterLaws.{digit-permitted, name-permitted}
 use Rattle.chars.specs.Characters.{isPermitted, isBlank, isDigit, isOfName}
 use Rattle.chars.specs.CharacterLaws.{digit-range}
@@ -54,27 +54,40 @@ digits-permitted = permitted-column isDigit digit-permitted 30
 pub names-permitted : (line : List ℕ) (at : ℕ) → allowedTest OfNames line at ≡ fine → allowedTest Permitted line at ≡ fine
 names-permitted = permitted-column isOfName name-permitted 54
 
--- ---- the numbers of the refusals
-module _ (least most : ℕ) where
-  pub unless-within : (passes : Bool) (first number : ℕ) → Between least most number → Within least most (unless passes first number)
-  unless-within passes first number between = search (choice-within, fine-within, broken-within)
+-- ---- the labels of the refusals
+-- A test gives its own number, at its own column.
+pub unless-labelled : (passes : Bool) (first number : ℕ) → Labelled number first first (unless passes first number)
+unless-labelled true first number = fine-labelled number first first
+unless-labelled false first number = broken-labelled number first first first (omega arith) (omega arith)
 
-  column-within : (test : ℕ → Bool) (number : ℕ) (line : List ℕ) (at : ℕ) → Between least most number → Within least most (columnTest test number line at)
+-- Columns are refused by 3, 30, 31 and 54, at one of them.
+module _ (line : List ℕ) (first last : ℕ) where
+  each-labelled : (allowed : Allowed) (number : ℕ) → ((at : ℕ) → Labelled number (at + 1) (at + 1) (allowedTest allowed line at))
+      → Labelled number first last (everyColumn allowed line first last)
+  unfolding everyColumn
+  each-labelled allowed number each =
+      says-labelled number first last _ (λ column told e.
+      let broken-one = first-is-first (allowedTest allowed line) (widthOf first last) (first - 1) column told e in
+      let at = first - 1 + broken-one .at in
+      let some = broken-one .in-range in
+      let is = labelled-says number (at + 1) (at + 1) (allowedTest allowed line at) (each at) column told (broken-one .hit) in
+      (is .0, omega arith, omega arith))
+
+  test-labelled : (test : ℕ → Bool) (number at : ℕ) → Labelled number (at + 1) (at + 1) (columnTest test number line at)
   unfolding columnTest
-  column-within test number line at between = search unless-within
+  test-labelled test number at = unless-labelled (test (getD line at 0)) (at + 1) number
 
-  -- Columns are refused by 3, 30, 31 and 54.
-  module _ (low : Between least most 3) (high : Between least most 54) where
-    allowed-within : (allowed : Allowed) (line : List ℕ) (at : ℕ) → Within least most (allowedTest allowed line at)
-    allowed-within Anything line at = fine-within least most
-    allowed-within Permitted line at = column-within isPermitted 3 line at low
-    allowed-within Blanks line at = column-within isBlank 31 line at (omega arith)
-    allowed-within Digits line at = column-within isDigit 30 line at (omega arith)
-    allowed-within OfNames line at = column-within isOfName 54 line at high
+  pub permitted-labelled : Labelled 3 first last (everyColumn Permitted line first last)
+  permitted-labelled = each-labelled Permitted 3 (test-labelled isPermitted 3)
 
-    pub every-within : (allowed : Allowed) (line : List ℕ) (first last : ℕ) → Within least most (everyColumn allowed line first last)
-    unfolding everyColumn
-    every-within allowed line first last = first-within least most (allowedTest allowed line) (allowed-within allowed line) (widthOf first last) (first - 1)
+  pub blanks-labelled : Labelled 31 first last (everyColumn Blanks line first last)
+  blanks-labelled = each-labelled Blanks 31 (test-labelled isBlank 31)
+
+  pub digits-labelled : Labelled 30 first last (everyColumn Digits line first last)
+  digits-labelled = each-labelled Digits 30 (test-labelled isDigit 30)
+
+  pub names-labelled : Labelled 54 first last (everyColumn OfNames line first last)
+  names-labelled = each-labelled OfNames 54 (test-labelled isOfName 54)
 
 -- ---- what the columns hold where none is broken
 module _ (allowed : Allowed) (line : List ℕ) (first last : ℕ) where

@@ -7,10 +7,11 @@ use Rattle.laws.specs.Finding.{Finding, fine, orElse}
 use Rattle.chars.specs.Columns.{everyColumn, unless}
 use Rattle.chars.specs.declared.columns.Allowed.{Allowed}
 
--- The paper's number, the first column of what the edit looks at, and what it finds in a line.
+-- Its label, the paper's number and the first and the last column that it can tell; and what it finds in a line.
 pub record Edit : Type 0 where
   pub number : ℕ
   pub first : ℕ
+  pub last : ℕ
   pub finds : Finding
 
 -- Said of one edit alone, whatever stands before it.
@@ -18,12 +19,15 @@ abbrev pub Broken : Edit → Type 0
 Broken edit = edit .finds ≡ fine → ⊥
 
 -- "other field refusals give the field's first column"
+abbrev pub atFirst : ℕ → ℕ → Finding → Edit
+atFirst number first finds = record { number = number; first = first; last = first; finds = finds }
+
 abbrev pub rule : ℕ → ℕ → Bool → Edit
-rule number first passes = record { number = number; first = first; finds = unless passes first number }
+rule number first passes = atFirst number first (unless passes first number)
 
 -- "A column named 'at the first' is that column"
 abbrev pub eachColumn : ℕ → Allowed → List ℕ → ℕ → ℕ → Edit
-eachColumn number allowed line first last = record { number = number; first = first; finds = everyColumn allowed line first last }
+eachColumn number allowed line first last = record { number = number; first = first; last = last; finds = everyColumn allowed line first last }
 
 -- The first broken edit of a list in the stated order.
 unfoldable pub firstBroken : List Edit → Finding

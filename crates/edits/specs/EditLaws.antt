@@ -5,6 +5,7 @@ use mathlib.Core.List.{List, [], _∷_, _++_}
 use native.Mathlib.Omega.{arith}
 use Rattle.laws.specs.Finding.{Finding, fine, broken, orElse}
 use Rattle.edits.specs.Edit.{Edit, firstBroken}
+use Rattle.edits.specs.Labels.{ByLabel, AllLabelled, labelled-first}
 
 -- ---- the first of two findings
 pub or-fine : (f : Finding) → orElse f fine ≡ f
@@ -71,7 +72,7 @@ pub append-fine : (a b : List Edit) → firstBroken (a ++ b) ≡ fine → (first
 append-fine a b e = both-fine (firstBroken a) (firstBroken b) (sym (first-append a b) ∙ e)
 
 -- ---- the first
--- The finding is that of one edit of the list, and none of those before it is broken.
+-- The finding is that of one edit of the list, told by its label, and none of those before it is broken.
 pub record FirstIn (edits : List Edit) (column number : ℕ) : Type 0 where
   pub earlier : List Edit
   pub edit : Edit
@@ -79,10 +80,12 @@ pub record FirstIn (edits : List Edit) (column number : ℕ) : Type 0 where
   pub stands : edits ≡ earlier ++ (edit ∷ later)
   pub none-earlier : AllFine earlier
   pub hit : edit .finds ≡ broken column number
+  pub by-label : ByLabel edit column number
 
 here-first : (edit : Edit) (edits : List Edit) (column number : ℕ) (f : Finding) → edit .finds ≡ f → orElse f (firstBroken edits) ≡ broken column number
+    → (edit .finds ≡ broken column number → ByLabel edit column number)
     → (firstBroken edits ≡ broken column number → FirstIn edits column number) → FirstIn (edit ∷ edits) column number
-here-first edit edits column number fine told e rest =
+here-first edit edits column number fine told e label rest =
     let r = rest e in
     record {
       earlier = edit ∷ r .earlier;
@@ -91,8 +94,9 @@ here-first edit edits column number fine told e rest =
       stands = ap (λ (l : List Edit). edit ∷ l) (r .stands);
       none-earlier = (told, r .none-earlier);
       hit = r .hit;
+      by-label = r .by-label;
     }
-here-first edit edits column number (broken c n) told e rest =
+here-first edit edits column number (broken c n) told e label rest =
     record {
       earlier = [];
       edit = edit;
@@ -100,10 +104,13 @@ here-first edit edits column number (broken c n) told e rest =
       stands = refl;
       none-earlier = tt;
       hit = told ∙ e;
+      by-label = label (told ∙ e);
     }
 
 -- A broken answer is the first broken edit.
-pub first-of-list : (edits : List Edit) (column number : ℕ) → firstBroken edits ≡ broken column number → FirstIn edits column number
+pub first-of-list : (edits : List Edit) → AllLabelled edits → (column number : ℕ) → firstBroken edits ≡ broken column number → FirstIn edits column number
 unfolding firstBroken
-first-of-list [] column number e = absurd (not-broken column number e)
-first-of-list (edit ∷ edits) column number e = here-first edit edits column number (edit .finds) refl e (first-of-list edits column number)
+first-of-list [] all column number e = absurd (not-broken column number e)
+first-of-list (edit ∷ edits) all column number e =
+    let labels = labelled-first edit edits all in
+    here-first edit edits column number (edit .finds) refl e (labels .0 column number) (first-of-list edits (labels .1) column number)

@@ -1,4 +1,5 @@
 pub mod Edit
+pub mod Labels
 pub mod EditLaws
 pub mod Own
 pub mod WithContext
@@ -7,5 +8,5 @@ pub mod FieldLaws
 pub mod Parts
 pub mod Lists
 pub mod ListLaws
-pub mod Numbered
+pub mod Labelled
 pub mod Alike

@@ -15,21 +15,17 @@ use Rattle.text.specs.Text.{allBlank, isIndented, entityTest}
 use Rattle.text.specs.Address.{regionIn, stateTest, zipTest, extensionTest}
 use Rattle.field.specs.declared.class.Class.{Class}
 use Rattle.field.specs.declared.class.Class.the-variants.{Ignored, RecordLetter, BlankSpace, Numeric, AccountNumber, Flag, ThirdQuarterFlag, Period, RequiredText, OptionalText, PersonName, EntityCode, StateCode, ZipCode, ZipExtension, TaxYear, EmployerFein, IdentityNumber, CeaseDate}
-use Rattle.edits.specs.Edit.{Edit, rule, eachColumn}
+use Rattle.edits.specs.Edit.{Edit, atFirst, rule, eachColumn}
 use Rattle.edits.specs.declared.Marks.{Marks}
 
 -- "E flags: 0 or 1 (47)"
 abbrev pub flagEdit : List ℕ → ℕ → Edit
-flagEdit line first = record { number = 47; first = first; finds = findingIn (flagIn line first) }
+flagEdit line first = atFirst 47 first (findingIn (flagIn line first))
 
 -- "191 is tested only in period 09 (Appendix D); otherwise any character passes."
 abbrev pub thirdQuarterEdit : Marks → List ℕ → ℕ → Edit
 thirdQuarterEdit marks line first =
-    record {
-      number = 47;
-      first = first;
-      finds = if eqb (valueIn line (marks .«period_first») (marks .«period_last»)) 9 then findingIn (flagIn line first) else fine;
-    }
+    atFirst 47 first (if eqb (valueIn line (marks .«period_first») (marks .«period_last»)) 9 then findingIn (flagIn line first) else fine)
 
 -- "Number .. all digits (30 at the first that is not)"
 abbrev pub digitsEdit : List ℕ → ℕ → ℕ → Edit
@@ -59,18 +55,17 @@ own marks code RecordLetter line first last = []
 own marks code BlankSpace line first last = eachColumn 31 Blanks line first last ∷ []
 own marks code Numeric line first last = digitsEdit line first last ∷ []
 own marks code AccountNumber line first last =
-    record { number = 30; first = first; finds = if allBlank line first last then fine else everyColumn Digits line first last } ∷ []
+    record { number = 30; first = first; last = last; finds = if allBlank line first last then fine else everyColumn Digits line first last } ∷ []
 own marks code Flag line first last = flagEdit line first ∷ []
 own marks code ThirdQuarterFlag line first last = thirdQuarterEdit marks line first ∷ []
-own marks code Period line first last = record { number = 40; first = first; finds = findingIn (periodIn line first last) } ∷ []
+own marks code Period line first last = atFirst 40 first (findingIn (periodIn line first last)) ∷ []
 own marks code RequiredText line first last = requiredEdits line first last
 own marks code OptionalText line first last = rule 33 first (allBlank line first last || not (isIndented line first)) ∷ []
 own marks code PersonName line first last = requiredEdits line first last ++ (eachColumn 54 OfNames line first last ∷ [])
-own marks code EntityCode line first last = record { number = 34; first = first; finds = entityTest code line first } ∷ []
-own marks code StateCode line first last = record { number = 35; first = first; finds = stateTest (regionIn line first) first } ∷ []
-own marks code ZipCode line first last = record { number = 36; first = first; finds = zipTest (regionIn line (marks .state)) line first } ∷ []
-own marks code ZipExtension line first last =
-    record { number = 37; first = first; finds = extensionTest (regionIn line (marks .state)) line first } ∷ []
+own marks code EntityCode line first last = atFirst 34 first (entityTest code line first) ∷ []
+own marks code StateCode line first last = atFirst 35 first (stateTest (regionIn line first) first) ∷ []
+own marks code ZipCode line first last = atFirst 36 first (zipTest (regionIn line (marks .state)) line first) ∷ []
+own marks code ZipExtension line first last = atFirst 37 first (extensionTest (regionIn line (marks .state)) line first) ∷ []
 own marks code TaxYear line first last = digitsEdit line first last ∷ rule 38 first (isFilingYear (valueIn line first last)) ∷ []
 own marks code EmployerFein line first last = digitsEdit line first last ∷ feinEdits (valueIn line first last) first
 own marks code IdentityNumber line first last = digitsEdit line first last ∷ rule 52 first (mayBeFiled (valueIn line first last)) ∷ []

@@ -1,8 +1,8 @@
 pub mod Choice
 pub mod Finding
 pub mod First
+pub mod Labelled
 pub mod Lists
-pub mod Numbered
 pub mod Steps
 pub mod Table
 pub mod Text

@@ -8,7 +8,7 @@ use lib.Dec.{eqb}
 use lib.ListN.{length}
 use Rattle.laws.specs.Choice.{if_then_else_}
 use Rattle.laws.specs.Finding.{fine, broken, orElse, value, refused, findingIn}
-use Rattle.laws.specs.Numbered.{Between, Within, fine-within, broken-within, choice-within}
+use Rattle.laws.specs.Labelled.{Labelled, fine-labelled, broken-labelled, choice-labelled}
 use Rattle.lines.specs.Cutting.{beyond, cutting, lengthTest, endTest}
 use Rattle.lines.specs.Lines.{Line, sizeOf}
 
@@ -72,12 +72,16 @@ pub cut-parts : (n : ℕ) (line : Line) → findingIn (cutting n line) ≡ orEls
 unfolding cutting lengthTest endTest
 cut-parts n line = in-parts (eqb (length (line .text)) n) (eqb (length (line .ending)) 0) (sizeOf line) (min (length (line .text) + 1) (beyond n)) (beyond n)
 
--- ---- the numbers of the refusals
-module _ (least most n : ℕ) (line : Line) where
-  pub length-within : Between least most 1 → Within least most (lengthTest n line)
+-- ---- the labels of the refusals: 1 at a column up to the one behind the last, 2 at that one
+module _ (n : ℕ) (line : Line) where
+  pub length-labelled : Labelled 1 1 (beyond n) (lengthTest n line)
   unfolding lengthTest
-  length-within between = search (choice-within, fine-within, broken-within)
+  length-labelled =
+      choice-labelled 1 1 (beyond n) (eqb (length (line .text)) n) _ _ (fine-labelled 1 1 (beyond n))
+      (broken-labelled 1 1 (beyond n) (min (length (line .text) + 1) (beyond n)) (omega arith) (omega arith))
 
-  pub end-within : Between least most 2 → Within least most (endTest n line)
+  pub ending-labelled : Labelled 2 (beyond n) (beyond n) (endTest n line)
   unfolding endTest
-  end-within between = search (choice-within, fine-within, broken-within)
+  ending-labelled =
+      choice-labelled 2 (beyond n) (beyond n) (eqb (length (line .ending)) 0) _ _ (broken-labelled 2 (beyond n) (beyond n) (beyond n) (omega arith) (omega arith))
+      (fine-labelled 2 (beyond n) (beyond n))

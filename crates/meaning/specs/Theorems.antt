@@ -1,18 +1,23 @@
 -- accepted-iff and first-is-first, of a whole file.
-use Prim.Native.Nat.{ℕ}
-use mathlib.Core.List.{List, [], _∷_, _++_}
+use Prim.Native.Nat.{ℕ, _+_}
+use mathlib.Core.List.{List, [], _∷_, _++_, map}
 use mathlib.Core.Path.{_≡_, refl, sym, ap}
 use native.Mathlib.Omega.{arith}
+use lib.ListN.{length}
 use Rattle.laws.specs.Finding.{Finding, fine, broken}
 use Rattle.reason.specs.Numbers.{Notice, notice}
-use Rattle.lines.specs.Lines.{linesOf}
+use Rattle.lines.specs.Lines.{Line, linesOf}
 use Rattle.calendar.specs.declared.Quarter.{Quarter}
+use Rattle.edits.specs.Edit.{Edit}
+use Rattle.edits.specs.Labels.{ByLabel, AllLabelled, labelled-append, labelled-first}
 use Rattle.edits.specs.declared.Totals.{Totals}
+use Rattle.record.specs.Judge.{recordOn}
+use Rattle.record.specs.Labelled.{line-labelled, end-labelled}
 use Rattle.record.specs.declared.said.Said.{Said}
 use Rattle.tables.specs.Room.{Room}
 use Rattle.tables.specs.declared.Employer.{Employer}
-use Rattle.meaning.specs.Before.{totalsIn, entriesIn}
-use Rattle.meaning.specs.Meaning.{LineEdit, fileEdits, FileFinding, nothing, found, foundOn, orFound, firstOfFile, recordsOnto, accepted, refused, outcomeBy, meaning}
+use Rattle.meaning.specs.Before.{phaseAfter, totalsIn, entriesIn}
+use Rattle.meaning.specs.Meaning.{contextAt, editsAt, LineEdit, onLine, editsFrom, fileEdits, FileFinding, nothing, found, foundOn, orFound, firstOfFile, recordsOnto, accepted, refused, outcomeBy, meaning}
 
 -- ---- a list with none broken
 -- Every edit of the list finds nothing.
@@ -46,8 +51,27 @@ found-none (this ∷ edits) e =
     let both = both-nothing (this .line) (this .edit .finds) (firstOfFile edits) e in
     (both .0, found-none edits (both .1))
 
+-- ---- the labels
+abbrev withoutLines : List LineEdit → List Edit
+withoutLines edits = map (λ (e : LineEdit). e .edit) edits
+
+off-line : (line : ℕ) (edits : List Edit) (rest : List LineEdit) → withoutLines (onLine line edits ++ rest) ≡ edits ++ withoutLines rest
+off-line line [] rest = refl
+off-line line (edit ∷ edits) rest = ap (λ (l : List Edit). edit ∷ l) (off-line line edits rest)
+
+-- What any edit of a file finds is told by its label.
+file-labelled : (room : Room) (held : Quarter) (p : List Said) (lines : List Line) → AllLabelled (withoutLines (editsFrom room held p lines))
+unfolding editsFrom
+file-labelled room held p [] = end-labelled (phaseAfter p)
+file-labelled room held p (line ∷ lines) =
+    let these = editsAt room held p line in
+    let rest = editsFrom room held (recordOn line ∷ p) lines in
+    rw (off-line (length p + 1) these rest)
+    (labelled-append these (withoutLines rest) (line-labelled (contextAt room held p) _ line) (file-labelled room held (recordOn line ∷ p) lines))
+
 -- ---- the first
--- The notice is that of one edit of the list, and none of those before it is broken.
+-- The notice is that of one edit of the list, told by its label: its number, and a column from its first to its last, the first unless the number
+-- names a column. None of those before it is broken.
 pub record FirstBroken (edits : List LineEdit) (says : Notice) : Type 0 where
   pub earlier : List LineEdit
   pub edit : LineEdit
@@ -56,12 +80,14 @@ pub record FirstBroken (edits : List LineEdit) (says : Notice) : Type 0 where
   pub none-earlier : NoneBroken earlier
   pub on-line : edit .line ≡ says .line
   pub hit : edit .edit .finds ≡ broken (says .column) (says .number)
+  pub by-label : ByLabel (edit .edit) (says .column) (says .number)
 
 -- The first edit is broken, or it is one behind it.
 here-first : (this : LineEdit) (edits : List LineEdit) (says : Notice) (f : Finding) → this .edit .finds ≡ f
     → orFound (foundOn (this .line) f) (firstOfFile edits) ≡ found (says .line) (says .column) (says .number)
+    → (this .edit .finds ≡ broken (says .column) (says .number) → ByLabel (this .edit) (says .column) (says .number))
     → (firstOfFile edits ≡ found (says .line) (says .column) (says .number) → FirstBroken edits says) → FirstBroken (this ∷ edits) says
-here-first this edits says fine told e rest =
+here-first this edits says fine told e label rest =
     let r = rest e in
     record {
       earlier = this ∷ r .earlier;
@@ -71,10 +97,12 @@ here-first this edits says fine told e rest =
       none-earlier = (told, r .none-earlier);
       on-line = r .on-line;
       hit = r .hit;
+      by-label = r .by-label;
     }
-here-first this edits says (broken column number) told e rest =
+here-first this edits says (broken column number) told e label rest =
     let same-column : column ≡ says .column = cc in
     let same-number : number ≡ says .number = cc in
+    let hits : this .edit .finds ≡ broken (says .column) (says .number) = cc in
     record {
       earlier = [];
       edit = this;
@@ -82,14 +110,18 @@ here-first this edits says (broken column number) told e rest =
       stands = refl;
       none-earlier = tt;
       on-line = cc;
-      hit = cc;
+      hit = hits;
+      by-label = label hits;
     }
 
 -- What is found is what the first broken edit finds, on its line.
-first-of-file : (edits : List LineEdit) (says : Notice) → firstOfFile edits ≡ found (says .line) (says .column) (says .number) → FirstBroken edits says
+first-of-file : (edits : List LineEdit) → AllLabelled (withoutLines edits) → (says : Notice)
+    → firstOfFile edits ≡ found (says .line) (says .column) (says .number) → FirstBroken edits says
 unfolding firstOfFile
-first-of-file [] says e = absurd (not-found (says .line) (says .column) (says .number) e)
-first-of-file (this ∷ edits) says e = here-first this edits says (this .edit .finds) refl e (first-of-file edits says)
+first-of-file [] all says e = absurd (not-found (says .line) (says .column) (says .number) e)
+first-of-file (this ∷ edits) all says e =
+    let labels = labelled-first (this .edit) (withoutLines edits) all in
+    here-first this edits says (this .edit .finds) refl e (labels .0 (says .column) (says .number)) (first-of-file edits (labels .1) says)
 
 -- ---- the outcome
 -- Only where nothing is found is a file accepted.
@@ -117,4 +149,5 @@ module _ (room : Room) (held : Quarter) (file : List ℕ) where
   -- "Otherwise the line, column and reason are those of the first broken edit in the stated order."
   pub first-is-first : (says : Notice) → meaning room held file ≡ refused says → FirstBroken (fileEdits room held file) says
   first-is-first says e =
-      first-of-file (fileEdits room held file) says (refuses-found (firstOfFile (fileEdits room held file)) (recordsOnto [] (linesOf file)) says e)
+      first-of-file (fileEdits room held file) (file-labelled room held [] (linesOf file)) says
+      (refuses-found (firstOfFile (fileEdits room held file)) (recordsOnto [] (linesOf file)) says e)

@@ -7,11 +7,11 @@ use native.Mathlib.Omega.{arith}
 use lib.Dec.{leb}
 use Rattle.laws.specs.Choice.{if_then_else_}
 use Rattle.laws.specs.Finding.{fine, orElse, Reading, value, refused, findingIn}
-use Rattle.laws.specs.Numbered.{Between, Within, broken-within}
+use Rattle.laws.specs.Labelled.{Labelled}
 use Rattle.calendar.specs.Quarters.{isFilingYear, isQuarterMonth}
 use Rattle.chars.specs.Agree.{Agree}
 use Rattle.chars.specs.Columns.{widthOf, everyColumn, unless}
-use Rattle.chars.specs.ColumnLaws.{unless-fine, unless-within}
+use Rattle.chars.specs.ColumnLaws.{unless-fine, unless-labelled}
 use Rattle.chars.specs.declared.columns.Allowed.the-variants.{Digits}
 use Rattle.number.specs.Numbers.{numberIn, valueOf, valueIn}
 use Rattle.number.specs.NumberLaws.{digits-read, number-alike}
@@ -84,16 +84,15 @@ pub period-alike : (u v : List ℕ) (first last : ℕ) → Agree u v first last 
 unfolding periodIn
 period-alike u v first last agree = ap (onlyOwn isQuarterMonth first 40) (number-alike u v first last agree)
 
--- ---- the numbers of the refusals: a rule that gives its own number gives no other
-module _ (least most : ℕ) where
-  own-within : (passes : ℕ → Bool) (first number : ℕ) (r : Reading) → Between least most number → Within least most (findingIn (onlyOwn passes first number r))
-  own-within passes first number (value v) between = rw rule-finds (unless-within least most (passes v) first number between)
-  own-within passes first number (refused column other) between = broken-within least most first number between
+-- ---- the labels of the refusals: a rule that gives its own number gives no other, and gives it at the first column
+own-labelled : (passes : ℕ → Bool) (first number : ℕ) (r : Reading) → Labelled number first first (findingIn (onlyOwn passes first number r))
+own-labelled passes first number (value v) = rw rule-finds (unless-labelled (passes v) first number)
+own-labelled passes first number (refused column other) = unless-labelled false first number
 
-  pub period-within : (line : List ℕ) (first last : ℕ) → Between least most 40 → Within least most (findingIn (periodIn line first last))
-  unfolding periodIn
-  period-within line first last between = own-within isQuarterMonth first 40 (numberIn line first last) between
+pub period-labelled : (line : List ℕ) (first last : ℕ) → Labelled 40 first first (findingIn (periodIn line first last))
+unfolding periodIn
+period-labelled line first last = own-labelled isQuarterMonth first 40 (numberIn line first last)
 
-  pub flag-within : (line : List ℕ) (column : ℕ) → Between least most 47 → Within least most (findingIn (flagIn line column))
-  unfolding flagIn
-  flag-within line column between = own-within (λ flag. leb flag 1) column 47 (numberIn line column column) between
+pub flag-labelled : (line : List ℕ) (column : ℕ) → Labelled 47 column column (findingIn (flagIn line column))
+unfolding flagIn
+flag-labelled line column = own-labelled (λ flag. leb flag 1) column 47 (numberIn line column column)

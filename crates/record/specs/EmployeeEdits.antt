@@ -15,7 +15,7 @@ use Rattle.field.specs.Classes.{class-again}
 use Rattle.field.specs.declared.class.Class.the-variants.{RecordLetter, BlankSpace, Numeric, PersonName, EntityCode, TaxYear, IdentityNumber, Period}
 use Rattle.layout.specs.Fields.{fieldsOfS}
 use Rattle.layout.specs.Rows.{rows-of-S}
-use Rattle.edits.specs.Edit.{Edit, rule, eachColumn, firstBroken}
+use Rattle.edits.specs.Edit.{Edit, atFirst, rule, eachColumn, firstBroken}
 use Rattle.edits.specs.EditLaws.{first-one, first-append}
 use Rattle.edits.specs.Fields.{Around, rule-again}
 use Rattle.edits.specs.Lists.{fieldEdits}
@@ -39,12 +39,12 @@ editsOfS a text =
     rule 32 11 (not (allBlank text 11 30)) ∷ rule 33 11 (not (isIndented text 11)) ∷ eachColumn 54 OfNames text 11 30 ∷
     rule 32 31 (not (allBlank text 31 42)) ∷ rule 33 31 (not (isIndented text 31)) ∷ eachColumn 54 OfNames text 31 42 ∷
     blankEdit text 43 45 ∷
-    record { number = 40; first = 46; finds = findingIn (periodIn text 46 47) } ∷ rule 43 46 (eqb (valueIn text 46 47) (a .here .filed .month)) ∷
+    atFirst 40 46 (findingIn (periodIn text 46 47)) ∷ rule 43 46 (eqb (valueIn text 46 47) (a .here .filed .month)) ∷
     digitsEdit text 48 51 ∷ rule 38 48 (isFilingYear (valueIn text 48 51)) ∷ rule 42 48 (eqb (valueIn text 48 51) (a .here .filed .year)) ∷
     blankEdit text 52 63 ∷
     digitsEdit text 64 77 ∷
     blankEdit text 78 142 ∷
-    record { number = 34; first = 143; finds = entityTest (a .code) text 143 } ∷
+    atFirst 34 143 (entityTest (a .code) text 143) ∷
     digitsEdit text 147 155 ∷ rule 46 147 (eqb (valueIn text 147 155) (a .here .open .fein)) ∷
     blankEdit text 156 290 ∷ []
 

@@ -13,7 +13,7 @@ use Rattle.chars.specs.declared.columns.Allowed.the-variants.{Permitted}
 use Rattle.number.specs.Numbers.{valueIn}
 use Rattle.reason.specs.Numbers.{numberOf}
 use Rattle.layout.specs.Fields.{fieldsOfA, fieldsOfE, fieldsOfS, fieldsOfT, fieldsOfF}
-use Rattle.edits.specs.Edit.{Edit, rule, eachColumn, firstBroken}
+use Rattle.edits.specs.Edit.{Edit, atFirst, rule, eachColumn, firstBroken}
 use Rattle.edits.specs.Fields.{Around}
 use Rattle.edits.specs.Lists.{fieldEdits}
 use Rattle.edits.specs.declared.Context.{Context}
@@ -59,8 +59,8 @@ textEdits here seen text kind = headEdits here text kind ++ fieldEdits (around h
 -- "Within a line: length, end, characters, letter, place, then fields by first column, each field's rules as above"
 abbrev pub lineEdits : Context → Seen → Line → List Edit
 lineEdits here seen line =
-    record { number = 1; first = 1; finds = lengthTest 290 line } ∷
-    record { number = 2; first = 1; finds = endTest 290 line } ∷
+    record { number = 1; first = 1; last = 291; finds = lengthTest 290 line } ∷
+    atFirst 2 291 (endTest 290 line) ∷
     textEdits here seen (capitals (line .text)) (kindOn (capitals (line .text)))
 
 -- What a record that breaks no edit says to the walk.

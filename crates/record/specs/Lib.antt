@@ -4,6 +4,7 @@ pub mod Rules
 pub mod Judge
 pub mod Wide
 pub mod JudgeLaws
+pub mod Labelled
 pub mod Theorems
 pub mod Listed
 pub mod Among

@@ -1,10 +1,13 @@
 -- No edit is missing: the numbers listed for each record are, in order, exactly those of a small table copied from the paper, with 64 and
--- 65 of document 02, "right after 44 and before 45" and "after 47 there", and the first columns of a record's edits never fall.
+-- 65 of document 02, "right after 44 and before 45" and "after 47 there", and the first columns of a record's edits never fall. (These are the
+-- edits' labels; that what an edit finds is told by its label is `line-labelled`.)
 use Prim.Native.Nat.{ℕ}
 use mathlib.Core.Bool.{Bool, true, _&&_}
-use mathlib.Core.List.{List, [], _∷_, map}
-use mathlib.Core.Path.{_≡_, refl}
+use mathlib.Core.List.{List, [], _∷_, _++_, map, map-append}
+use mathlib.Core.Path.{_≡_, refl, ap, _∙_}
 use lib.Dec.{leb}
+use Rattle.lines.specs.Lines.{Line}
+use Rattle.chars.specs.Characters.{capitals}
 use Rattle.field.specs.Classes.{class-again}
 use Rattle.field.specs.declared.class.Class.the-variants.{RecordLetter, BlankSpace, Numeric, AccountNumber, Flag, ThirdQuarterFlag, Period, RequiredText, OptionalText, PersonName, EntityCode, StateCode, ZipCode, ZipExtension, TaxYear, EmployerFein, IdentityNumber, CeaseDate}
 use Rattle.layout.specs.Fields.{fieldsOfA, fieldsOfE, fieldsOfS, fieldsOfT, fieldsOfF}
@@ -13,10 +16,12 @@ use Rattle.edits.specs.Fields.{Around, rule-again}
 use Rattle.edits.specs.Lists.{fieldEdits}
 use Rattle.edits.specs.ListLaws.{none-listed, fields-cons}
 use Rattle.edits.specs.declared.Context.{Context}
+use Rattle.edits.specs.declared.Seen.{Seen}
 use Rattle.edits.specs.declared.Rule.the-variants.{Nothing, YearInTime, QuarterInTime, YearOfA, PeriodOfA, FeinNew, FeinOfE, DateInQuarter, IdentityNew, CountOfS, WagesOfS, FileCountOfS, FileCountOfE, FileWagesOfS, FinalIfCurrent}
-use Rattle.record.specs.Judge.{headEdits}
-use Rattle.record.specs.Rules.{rulesOfA, rulesOfE, rulesOfS, rulesOfT, rulesOfF}
+use Rattle.record.specs.Judge.{kindOn, rowsFor, around, headEdits, lineEdits}
+use Rattle.record.specs.Rules.{rulesOfA, rulesOfE, rulesOfS, rulesOfT, rulesOfF, rulesFor}
 use Rattle.record.specs.declared.kind.Kind.{Kind}
+use Rattle.record.specs.declared.kind.Kind.the-variants.{Transmitter, Employer, Employee, Total, Final, Unknown}
 
 abbrev pub numbersOf : List Edit → List ℕ
 numbersOf edits = map (λ (edit : Edit). edit .number) edits
@@ -54,9 +59,24 @@ abbrev pub numbersOfF : List ℕ
 numbersOfF =
     30 ∷ 58 ∷ 30 ∷ 59 ∷ 34 ∷ 31 ∷ 30 ∷ 60 ∷ 31 ∷ []
 
--- "characters, letter, place", and 61; 1 and 2 stand before them
-pub listed-head : (here : Context) (text : List ℕ) (kind : Kind)
-    → numbersOf (headEdits here text kind) ≡ 3 ∷ 4 ∷ 10 ∷ 11 ∷ 12 ∷ 13 ∷ 14 ∷ 15 ∷ 16 ∷ 17 ∷ 18 ∷ 19 ∷ 20 ∷ 61 ∷ []
+abbrev pub numbersFor : Kind → List ℕ
+numbersFor Transmitter = numbersOfA
+numbersFor Employer = numbersOfE
+numbersFor Employee = numbersOfS
+numbersFor Total = numbersOfT
+numbersFor Final = numbersOfF
+numbersFor Unknown = []
+
+-- Before the fields, "characters, letter, place", and 61.
+abbrev pub numbersOfHead : List ℕ
+numbersOfHead =
+    3 ∷ 4 ∷ 10 ∷ 11 ∷ 12 ∷ 13 ∷ 14 ∷ 15 ∷ 16 ∷ 17 ∷ 18 ∷ 19 ∷ 20 ∷ 61 ∷ []
+
+-- The whole line: "length, end, characters, letter, place, then fields by first column".
+abbrev pub numbersOfLine : Kind → List ℕ
+numbersOfLine kind = 1 ∷ 2 ∷ numbersOfHead ++ numbersFor kind
+
+pub listed-head : (here : Context) (text : List ℕ) (kind : Kind) → numbersOf (headEdits here text kind) ≡ numbersOfHead
 listed-head here text kind = refl
 
 module _ (a : Around) (text : List ℕ) where
@@ -99,3 +119,21 @@ module _ (a : Around) (text : List ℕ) where
   pub in-order-F : neverFalls (fieldEdits a text fieldsOfF rulesOfF) ≡ true
   unfolding fieldsOfF rulesOfF
   in-order-F = simp (fields-cons, none-listed, class-again RecordLetter, class-again Numeric, class-again EntityCode, class-again BlankSpace, rule-again Nothing, rule-again FileCountOfS, rule-again FileCountOfE, rule-again FileWagesOfS)
+
+-- The same of a whole line, by the record on it.
+listed-fields : (a : Around) (text : List ℕ) (kind : Kind) → numbersOf (fieldEdits a text (rowsFor kind) (rulesFor kind)) ≡ numbersFor kind
+listed-fields a text Transmitter = listed-A a text
+listed-fields a text Employer = listed-E a text
+listed-fields a text Employee = listed-S a text
+listed-fields a text Total = listed-T a text
+listed-fields a text Final = listed-F a text
+listed-fields a text Unknown = ap numbersOf (none-listed a text [])
+
+pub listed-line : (here : Context) (seen : Seen) (line : Line)
+    → numbersOf (lineEdits here seen line) ≡ numbersOfLine (kindOn (capitals (line .text)))
+listed-line here seen line =
+    let text = capitals (line .text) in
+    let kind = kindOn text in
+    let fields = fieldEdits (around here seen kind) text (rowsFor kind) (rulesFor kind) in
+    ap (λ (numbers : List ℕ). 1 ∷ 2 ∷ numbers)
+    (map-append (λ (edit : Edit). edit .number) (headEdits here text kind) fields ∙ ap (λ (numbers : List ℕ). numbersOfHead ++ numbers) (listed-fields (around here seen kind) text kind))

@@ -20,7 +20,7 @@ use Rattle.field.specs.Classes.{class-again}
 use Rattle.field.specs.declared.class.Class.the-variants.{RecordLetter, BlankSpace, Numeric, EntityCode}
 use Rattle.layout.specs.Fields.{fieldsOfT, fieldsOfF}
 use Rattle.layout.specs.Rows.{rows-of-T, rows-of-F}
-use Rattle.edits.specs.Edit.{Edit, rule, eachColumn, firstBroken}
+use Rattle.edits.specs.Edit.{Edit, atFirst, rule, eachColumn, firstBroken}
 use Rattle.edits.specs.EditLaws.{AllFine, all-fine, all-append, first-cons, first-one, first-append}
 use Rattle.edits.specs.Fields.{Around, rule-again}
 use Rattle.edits.specs.Lists.{fieldEdits}
@@ -44,7 +44,7 @@ use Rattle.record.specs.declared.said.Said.the-variants.{OfA, OfE, OfS, 
 
 -- The code of the format, and blank columns.
 abbrev codeEdit : Around → List ℕ → ℕ → Edit
-codeEdit a text first = record { number = 34; first = first; finds = entityTest (a .code) text first }
+codeEdit a text first = atFirst 34 first (entityTest (a .code) text first)
 
 abbrev blankEdit : List ℕ → ℕ → ℕ → Edit
 blankEdit text first last = eachColumn 31 Blanks text first last

@@ -10,6 +10,7 @@ use Rattle.edits.specs.EditLaws.{AllFine, fine-all, all-fine, FirstIn, first-of
 use Rattle.edits.specs.declared.Context.{Context}
 use Rattle.edits.specs.declared.Seen.{Seen}
 use Rattle.record.specs.Judge.{kindOn, lineEdits, saidBy, refusal, passed, verdictBy, judge}
+use Rattle.record.specs.Labelled.{line-labelled}
 use Rattle.record.specs.declared.said.Said.{Said}
 
 pub not-passed : (column number taken : ℕ) (said : Said) → refusal column number ≡ passed taken said → ⊥
@@ -41,6 +42,6 @@ module _ (here : Context) (seen : Seen) (line : Line) where
   unfolding judge
   refused-finds column number e = refuses-broken (firstBroken (lineEdits here seen line)) _ _ column number e
 
-  -- A refusal is a broken edit, and no edit before it in the stated order is broken.
+  -- A refusal is a broken edit, told by its label, and no edit before it in the stated order is broken.
   pub first-is-first : (column number : ℕ) → judge here seen line ≡ refusal column number → FirstIn (lineEdits here seen line) column number
-  first-is-first column number e = first-of-list (lineEdits here seen line) column number (refused-finds column number e)
+  first-is-first column number e = first-of-list (lineEdits here seen line) (line-labelled here seen line) column number (refused-finds column number e)

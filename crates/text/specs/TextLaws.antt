@@ -12,13 +12,13 @@ use lib.Seq.{drop-cons, drop-drop, getD-drop}
 use borrow.Author.Tests.{eqb-true, eq-eqb, ne-eqb}
 use Rattle.laws.specs.Choice.{if_then_else_, both-hold}
 use Rattle.laws.specs.Finding.{Finding, fine, broken, orElse}
-use Rattle.laws.specs.Numbered.{Between, Within, fine-within, broken-within}
+use Rattle.laws.specs.Labelled.{Labelled, fine-labelled}
 use Rattle.codes.specs.declared.Region.{Region}
 use Rattle.codes.specs.declared.Region.the-variants.{State, Province, Unknown}
 use Rattle.chars.specs.Agree.{Agree, agree-from}
 use Rattle.chars.specs.Characters.{isBlank}
 use Rattle.chars.specs.Columns.{allowedTest, everyColumn, isFine, unless}
-use Rattle.chars.specs.ColumnLaws.{column-says, unless-within, fine-columns, columns-fine, blank-column}
+use Rattle.chars.specs.ColumnLaws.{column-says, unless-labelled, fine-columns, columns-fine, blank-column}
 use Rattle.chars.specs.declared.columns.Allowed.the-variants.{Blanks}
 use Rattle.text.specs.Address.{stateTest, zipTest, extensionTest}
 use Rattle.text.specs.Text.{allBlank, isIndented, textTest, requiredText, optionalText, isAsked, readsAs, hasPattern, entityTest}
@@ -176,22 +176,21 @@ module _ (line : List ℕ) (first last : ℕ) where
   unfolding textTest
   optional-parts = optional-tests (allBlank line first last) (isIndented line first) first
 
--- ---- the numbers of the refusals
-module _ (least most : ℕ) where
-  pub entity-within : (code line : List ℕ) (first : ℕ) → Between least most 34 → Within least most (entityTest code line first)
-  entity-within code line first between = search unless-within
+-- ---- the labels of the refusals
+pub entity-labelled : (code line : List ℕ) (first : ℕ) → Labelled 34 first first (entityTest code line first)
+entity-labelled code line first = search unless-labelled
 
-  pub state-within : (region : Region) (first : ℕ) → Between least most 35 → Within least most (stateTest region first)
-  state-within State first between = search fine-within
-  state-within Province first between = search fine-within
-  state-within Unknown first between = search broken-within
+pub state-labelled : (region : Region) (first : ℕ) → Labelled 35 first first (stateTest region first)
+state-labelled State first = search fine-labelled
+state-labelled Province first = search fine-labelled
+state-labelled Unknown first = unless-labelled false first 35
 
-  pub zip-within : (region : Region) (line : List ℕ) (first : ℕ) → Between least most 36 → Within least most (zipTest region line first)
-  zip-within State line first between = search unless-within
-  zip-within Province line first between = search unless-within
-  zip-within Unknown line first between = search fine-within
+pub zip-labelled : (region : Region) (line : List ℕ) (first : ℕ) → Labelled 36 first first (zipTest region line first)
+zip-labelled State line first = search unless-labelled
+zip-labelled Province line first = search unless-labelled
+zip-labelled Unknown line first = search fine-labelled
 
-  pub extension-within : (region : Region) (line : List ℕ) (first : ℕ) → Between least most 37 → Within least most (extensionTest region line first)
-  extension-within State line first between = search unless-within
-  extension-within Province line first between = search unless-within
-  extension-within Unknown line first between = search fine-within
+pub extension-labelled : (region : Region) (line : List ℕ) (first : ℕ) → Labelled 37 first first (extensionTest region line first)
+extension-labelled State line first = search unless-labelled
+extension-labelled Province line first = search unless-labelled
+extension-labelled Unknown line first = search fine-labelled
