@@ -30,9 +30,8 @@ use Rattle.walk.specs.CallLaws.{file-sound-at}
 use Rattle.walk.specs.Calls.{leaves, wholeFile}
 use Rattle.walk.specs.GoodLaws.{good-none, still-reportable}
 use Rattle.walk.specs.WholeLaws.{whole-means}
-use Rattle.frames.specs.Frames.{refusalFrame, framesOf, Framing, fitted, roomWithout, framing}
+use Rattle.frames.specs.Frames.{refusalFrame, framesOf, written, Framing, untouched, fitted, roomWithout, framing}
 use Rattle.frames.specs.FrameLaws.{refusal-length, within-bound, accepted-framed, refused-framed}
-use Rattle.frames.specs.declared.Framed.the-variants.{Written, NotEnded}
 use Rattle.ack.specs.Acknowledgement.{programRoom, fileFrames, acknowledgement}
 use Rattle.ack.specs.Program.{turns, input}
 use Rattle.ack.specs.ProgramLaws.{turns-wait}
@@ -48,7 +47,7 @@ enough = 35875
 
 -- Frames that fit are written at the front.
 abbrev writes : List ℕ → List ℕ → Framing
-writes frames out = record { answer = Written (length frames); out = frames ++ drop (length frames) out }
+writes frames out = record { says = written (length frames); out = frames ++ drop (length frames) out }
 
 fit-written : (frames out : List ℕ) → length frames ≤ length out → fitted frames out ≡ writes frames out
 fit-written frames out h = rw (le-ltb (length out) (length frames) h)
@@ -105,12 +104,12 @@ module _ (held : Quarter) (file : List ℕ) (t : Tables) (room : roomOf t ≡ pr
 
 -- The frames that a finished turn writes into a buffer.
 abbrev pub turnFrames : Progress → Tables → List ℕ → Framing
-turnFrames waiting t out = record { answer = NotEnded; out = out }
+turnFrames waiting t out = untouched 87 out
 turnFrames (walking walk) t out = framing walk (t .list) out
 turnFrames (finished walk) t out = framing walk (t .list) out
 
 -- For every way of cutting the input into reads, the turns end, and the frames written are the acknowledgement of all that was read.
 pub program-means : (reads : List (List ℕ)) (t : Tables) → roomOf t ≡ programRoom → (out : List ℕ) → enough ≤ length out
     → turnFrames (turns waiting [] reads t .progress) (turns waiting [] reads t .tables) out
-    ≡ record { answer = Written (length (acknowledgement (input reads))); out = acknowledgement (input reads) ++ drop (length (acknowledgement (input reads))) out }
+    ≡ record { says = written (length (acknowledgement (input reads))); out = acknowledgement (input reads) ++ drop (length (acknowledgement (input reads))) out }
 program-means reads t room out h = rw (whole-end reads t) (file-written (headerQuarter (input reads)) (drop 7 (input reads)) t room out h)

@@ -18,7 +18,8 @@ use Rattle.words.proofs.state_in as state-in-fn
 use Rattle.walk.specs.Calls.{wholeFile}
 use Rattle.walk.proofs.line as line-fn
 use Rattle.walk.proofs.whole as whole-fn
-use Rattle.capi.specs.Exports.{numbers, Told, Promised, quarterOf, framedNumbers}
+use Rattle.frames.specs.Frames.{framedNumbers}
+use Rattle.capi.specs.Exports.{numbers, Told, Promised, quarterOf, framingNumbers}
 use Rattle.capi.proofs.quarter as quarter-fn
 use Rattle.capi.proofs.tell as tell-fn
 use Rattle.capi.proofs.tell_no_place as tell-no-place-fn
@@ -51,4 +52,4 @@ module _ {M : Type 1} {𝓤 : URA M} {H : Heap 𝓤} {A : Atoms 𝓤} (W : Given
   tell-no-place = total W tell-no-place-fn.ended (tell-no-place-fn.clauses 𝓤 H A mem run) (λ κs a g. id⊢ 𝓤 (emp 𝓤)) (λ κs a g r ws. Told (numbers (notice 72 0 0) 0) r (a .0 .now) (ws .0)) (λ κs a g r ws. refl) (λ κs. vint w64) (λ κs. uint-tells w64)
 
   abbrev pub tell-framed : Callee W
-  tell-framed = total W tell-framed-fn.ended (tell-framed-fn.clauses 𝓤 H A mem run) (λ κs a g. id⊢ 𝓤 (emp 𝓤)) (λ κs a g r ws. Told (framedNumbers (a .0)) r (a .1 .0 .now) (ws .1 .0)) (λ κs a g r ws. refl) (λ κs. vint w64) (λ κs. uint-tells w64)
+  tell-framed = total W tell-framed-fn.ended (tell-framed-fn.clauses 𝓤 H A mem run) (λ κs a g. id⊢ 𝓤 (emp 𝓤)) (λ κs a g r ws. Told (framingNumbers (framedNumbers (a .0))) r (a .1 .0 .now) (ws .1 .0)) (λ κs a g r ws. refl) (λ κs. vint w64) (λ κs. uint-tells w64)

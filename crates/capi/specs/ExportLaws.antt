@@ -17,9 +17,9 @@ use Rattle.words.specs.Words.{wordCount, putWords, walkIn}
 use Rattle.write.specs.Writing.{Writing, noticeIn, writtenBy}
 use Rattle.write.specs.declared.Wrote.{Wrote}
 use Rattle.write.specs.declared.Wrote.the-variants.{Refused}
-use Rattle.frames.specs.Frames.{Framing}
+use Rattle.frames.specs.Frames.{framedNumbers, Framing, framedBy}
 use Rattle.frames.specs.declared.Framed.{Framed}
-use Rattle.capi.specs.Exports.{numbers, answered, Told, Called, isStill, stateAfter, called, Promised, placed, Filled, filled, writtenNumbers, filledRecord, readNumbers, readField, framedNumbers, filledFraming}
+use Rattle.capi.specs.Exports.{numbers, answered, Told, Called, isStill, stateAfter, called, Promised, placed, Filled, filled, writtenNumbers, filledRecord, readNumbers, readField, framingNumbers, filledFraming}
 use Rattle.capi.specs.declared.Numbers.{Numbers}
 
 -- ---- the answer's words
@@ -80,9 +80,9 @@ module _ (number : ℕ) (out answer after : List ℕ) where
   has-record wrote w n is-n is-w told =
       has-filled n told ∙ ap (λ (m : Numbers). filled m out answer) is-n ∙ ap (λ (x : Writing). filledRecord x answer) is-w
 
-  pub has-framing : (framed : Framed) (f : Framing) → record { answer = framed; out = out } ≡ f → Told (framedNumbers framed) number answer after
+  pub has-framing : (framed : Framed) (f : Framing) → framedBy framed out ≡ f → Told (framingNumbers (framedNumbers framed)) number answer after
       → fills ≡ filledFraming f answer
-  has-framing framed f is-f told = has-filled (framedNumbers framed) told ∙ ap (λ (x : Framing). filledFraming x answer) is-f
+  has-framing framed f is-f told = has-filled (framingNumbers (framedNumbers framed)) told ∙ ap (λ (x : Framing). filledFraming x answer) is-f
 
 -- ---- the calls that read a field
 pub has-read : (reading : Reading) (n : Numbers) → n ≡ readNumbers reading → (number : ℕ) (answer after : List ℕ) → Told n number answer after

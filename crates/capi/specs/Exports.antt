@@ -24,9 +24,7 @@ use Rattle.write.specs.Writing.{Writing, totalWriting, finalWriting}
 use Rattle.build.specs.Building.{building}
 use Rattle.build.specs.Values.{textIn}
 use Rattle.walk.specs.Calls.{wholeFile}
-use Rattle.frames.specs.Frames.{Framing, framing}
-use Rattle.frames.specs.declared.Framed.{Framed}
-use Rattle.frames.specs.declared.Framed.the-variants.{Written, Unfit, NotEnded, TooSmall}
+use Rattle.frames.specs.Frames.{FramedNumbers, Framing, framing}
 use Rattle.capi.specs.declared.Numbers.{Numbers}
 
 -- ---- the answer's words
@@ -152,16 +150,12 @@ abbrev pub readField : Reading → List ℕ → FieldRead
 readField reading answer = record { number = readNumbers reading .number; answer = answered (readNumbers reading) answer }
 
 -- ---- the call that writes frames
--- The papers give no number to frames that are asked for before the walk has ended, nor to a buffer that is too small for them. 87 and 88 are free
--- in them.
-abbrev pub framedNumbers : Framed → Numbers
-framedNumbers (Written bytes) = numbers (notice 0 0 0) bytes
-framedNumbers Unfit = numbers (notice 72 0 0) 0
-framedNumbers NotEnded = numbers (notice 87 0 0) 0
-framedNumbers TooSmall = numbers (notice 88 0 0) 0
+-- Its refusals have no place in the file.
+abbrev pub framingNumbers : FramedNumbers → Numbers
+framingNumbers says = numbers (notice (says .number) 0 0) (says .bytes)
 
 abbrev pub filledFraming : Framing → List ℕ → Filled
-filledFraming f answer = filled (framedNumbers (f .answer)) (f .out) answer
+filledFraming f answer = filled (framingNumbers (f .says)) (f .out) answer
 
 abbrev pub filledFrames : List ℕ → List Employer → List ℕ → List ℕ → Filled
 filledFrames words list out answer = filledFraming (framing (walkIn words) list out) answer

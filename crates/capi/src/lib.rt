@@ -17,7 +17,8 @@ ghost use Rattle.tables.specs.Room.{Tables, tables as tablesOf};
 ghost use Rattle.step.specs.Moves.{noticeIn, takenIn};
 ghost use Rattle.step.specs.Steps.{outOf};
 ghost use Rattle.write.specs.Writing.{noticeIn as noticeOn};
-ghost use Rattle.capi.specs.Exports.{numbers, Told, isStill, Promised, quarterOf, openThrough, lineThrough, endThrough, wholeThrough, writtenNumbers, filledT, filledF, filledBuilt, fieldFirst, fieldReading, fieldLength, readNumbers, readField, framedNumbers, filledFrames};
+ghost use Rattle.frames.specs.Frames.{framedNumbers};
+ghost use Rattle.capi.specs.Exports.{numbers, Told, isStill, Promised, quarterOf, openThrough, lineThrough, endThrough, wholeThrough, writtenNumbers, filledT, filledF, filledBuilt, fieldFirst, fieldReading, fieldLength, readNumbers, readField, framingNumbers, filledFrames};
 
 // What a call answers: the paper's number, line and column, and a count of bytes, or the number that a field holds.
 struct Numbers {
@@ -115,7 +116,7 @@ fn read_numbers(read: Number) -> Numbers
 }
 
 fn framed_numbers(framed: Framed) -> Numbers
-    ensures { λ r. ⌜ r ≡ framedNumbers framed ⌝ }
+    ensures { λ r. ⌜ r ≡ framingNumbers (framedNumbers framed) ⌝ }
 {
     match framed {
         Framed::Written(bytes) => fine(bytes as u64),
@@ -331,7 +332,7 @@ pub extern "C" fn wage_field_first(letter: u8, field: usize) -> u64
 
 // ---- the call that writes frames
 fn tell_framed(framed: Framed, answer: &mut [u64]) -> u64
-    ensures { λ r. ⌜ Told (framedNumbers framed) r (now (answer .entry)) (now (answer .exit)) ⌝ }
+    ensures { λ r. ⌜ Told (framingNumbers (framedNumbers framed)) r (now (answer .entry)) (now (answer .exit)) ⌝ }
 {
     tell_numbers(framed_numbers(framed), answer)
 }

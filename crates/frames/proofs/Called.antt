@@ -6,7 +6,7 @@ use contract.Monad.{factI}
 use denote.Enum.Laws as EL
 use Rattle.tables.proofs.Walk.{URA, Heap, Atoms, Given, Memory, Routine, Fun, SProp, emp, id⊢, w64, vunit, vint, nothing-tells, uint-tells, Callee, total}
 use Rattle.state.specs.Walks.{walkOf}
-use Rattle.frames.specs.Frames.{employerFrame, employerFrames, Framing, framing}
+use Rattle.frames.specs.Frames.{employerFrame, employerFrames, framedBy, framing}
 use Rattle.frames.specs.Parts.{employersFramed, lastFraming}
 use Rattle.frames.specs.Pasted.{pasted}
 use Rattle.frames.proofs.Framed as F
@@ -46,9 +46,9 @@ module _ {M : Type 1} {𝓤 : URA M} {H : Heap 𝓤} {A : Atoms 𝓤} (W : Given
   employers-framed = total W employers-framed-fn.ended (employers-framed-fn.clauses 𝓤 H A mem run) (λ κs a g. id⊢ 𝓤 (emp 𝓤)) (λ κs a g r ws. r ≡ employersFramed (walkOf (a .0)) (a .1 .0) (a .1 .1 .0)) (λ κs a g r ws. refl) (λ κs. vint w64) (λ κs. uint-tells w64)
 
   abbrev pub last-frame : Callee W
-  last-frame = total W last-frame-fn.ended (last-frame-fn.clauses 𝓤 H A mem run) (λ κs a g. id⊢ 𝓤 (emp 𝓤)) (λ κs a g r ws. _≡_ {A = Framing} (record { answer = r; out = ws .1 .1 .0 }) (lastFraming (walkOf (a .0)) (a .1 .0) (a .1 .1 .0 .now))) (λ κs a g r ws. refl)
+  last-frame = total W last-frame-fn.ended (last-frame-fn.clauses 𝓤 H A mem run) (λ κs a g. id⊢ 𝓤 (emp 𝓤)) (λ κs a g r ws. framedBy r (ws .1 .1 .0) ≡ lastFraming (walkOf (a .0)) (a .1 .0) (a .1 .1 .0 .now)) (λ κs a g r ws. refl)
       (λ κs. EL.val F.the-type F′.the-laws) (λ κs. EL.tells F.the-type F′.the-laws)
 
   abbrev pub frames : Callee W
-  frames = total W frames-fn.ended (frames-fn.clauses 𝓤 H A mem run) (λ κs a g. id⊢ 𝓤 (emp 𝓤)) (λ κs a g r ws. _≡_ {A = Framing} (record { answer = r; out = ws .1 .1 .0 }) (framing (walkOf (a .0)) (a .1 .0 .now) (a .1 .1 .0 .now))) (λ κs a g r ws. refl)
+  frames = total W frames-fn.ended (frames-fn.clauses 𝓤 H A mem run) (λ κs a g. id⊢ 𝓤 (emp 𝓤)) (λ κs a g r ws. framedBy r (ws .1 .1 .0) ≡ framing (walkOf (a .0)) (a .1 .0 .now) (a .1 .1 .0 .now)) (λ κs a g r ws. refl)
       (λ κs. EL.val F.the-type F′.the-laws) (λ κs. EL.tells F.the-type F′.the-laws)

@@ -1,5 +1,5 @@
 -- The laws of frames: how many bytes they are, how a loop writes them, and what a call writes for a walk that stands for a file's meaning.
-use Prim.Native.Nat.{ℕ, _+_, _*_, _≤_, _<_}
+use Prim.Native.Nat.{ℕ, _+_, _*_, _^_, _≤_, _<_}
 use mathlib.Core.Bool.{true, false, false≢true}
 use mathlib.Core.List.{List, [], _∷_, _++_, append-assoc, append-nil}
 use mathlib.Core.Path.{_≡_, refl, sym, ap, _∙_}
@@ -18,10 +18,9 @@ use Rattle.state.specs.Unfit.{unfit}
 use Rattle.state.specs.Walks as walks
 use Rattle.state.specs.Walks.{Standing, Walk}
 use Rattle.frames.specs.Hex.{hex}
-use Rattle.frames.specs.HexLaws.{hex-length}
-use Rattle.frames.specs.Frames.{lineEnd, employerFrame, employerFrames, closingFrame, refusalFrame, framesOf, bound, fitted, isAccepted, standingFrames, roomWithout, framing}
+use Rattle.frames.specs.HexLaws.{hex-length, hex-low}
+use Rattle.frames.specs.Frames.{lineEnd, employerFrame, employerFrames, closingFrame, refusalFrame, framesOf, bound, written, untouched, fitted, isAccepted, standingFrames, roomWithout, framing}
 use Rattle.frames.specs.Pasted.{pasted, pasted-none, pasted-one, pasted-front, pasted-length, pasted-behind, then-pasted}
-use Rattle.frames.specs.declared.Framed.the-variants.{Written, Unfit, TooSmall}
 
 -- A frame of its kind and three numbers, of 4, 4 and 8 bytes: an employer's and the closing one are such.
 abbrev pub threeNumbers : ℕ → ℕ → ℕ → ℕ → List ℕ
@@ -52,6 +51,12 @@ accepted-length entries all = rw (length-append, frames-length, closing-length)
 pub within-bound : (o : Outcome) → length (framesOf o) ≡ bound o
 within-bound (accepted entries totals) = accepted-length entries totals
 within-bound (refused says) = refusal-length says
+
+-- ---- an entry that a caller has altered
+-- FEIN and count are 8 bytes of an entry and 4 of its frame. Those of a file are below 2^32; of others the frame has the last 4 bytes.
+pub employer-low : (fein count cents k m : ℕ)
+    → employerFrame (record { fein = fein + 2 ^ 32 * k; count = count + 2 ^ 32 * m; cents = cents }) ≡ employerFrame (record { fein = fein; count = count; cents = cents })
+employer-low fein count cents k m = rw (hex-low 8 fein k, hex-low 8 count m)
 
 -- ---- a frame written part by part
 -- Every frame is four numbers of so many digits and the line's end.
@@ -105,10 +110,10 @@ one-more list i out h =
 
 -- ---- what a call answers
 module _ (frames out : List ℕ) (n : ℕ) (e : length frames ≡ n) where
-  pub too-small : length out < n → fitted frames out ≡ record { answer = TooSmall; out = out }
+  pub too-small : length out < n → fitted frames out ≡ untouched 88 out
   too-small h = rw (e, lt-ltb (length out) n h)
 
-  pub fits : (now : List ℕ) → n ≤ length out → now ≡ pasted 0 frames out → record { answer = Written n; out = now } ≡ fitted frames out
+  pub fits : (now : List ℕ) → n ≤ length out → now ≡ pasted 0 frames out → record { says = written n; out = now } ≡ fitted frames out
   fits now h is = rw (is, e, le-ltb (length out) n h, pasted-front out frames, e)
 
 module _ (list : List Employer) (all : Totals) (within : all .employers ≤ length list) where
@@ -131,7 +136,7 @@ is-accepted walks.accepted e = refl
 is-accepted (walks.refused says) e = absurd (false≢true e)
 
 module _ (walk : Walk) (list : List Employer) (out : List ℕ) (n : ℕ) (e : length list ≡ n) where
-  pub framing-unfit : unfit (record { ids = walk .used; list = n }) walk ≡ true → framing walk list out ≡ record { answer = Unfit; out = out }
+  pub framing-unfit : unfit (record { ids = walk .used; list = n }) walk ≡ true → framing walk list out ≡ untouched 72 out
   unfolding framing
   framing-unfit u = rw (e, u)
 

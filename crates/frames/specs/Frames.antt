@@ -47,17 +47,45 @@ abbrev pub bound : Outcome → ℕ
 bound (accepted entries totals) = 35 * length entries + 35
 bound (refused says) = 17
 
--- What a call that writes frames answers, and what is then in the lent buffer.
+-- ---- a call that writes frames
+-- What it answers: the number, 0 if all is well, and how many bytes are written.
+pub record FramedNumbers : Type 0 where
+  pub number : ℕ
+  pub bytes : ℕ
+
+abbrev pub written : ℕ → FramedNumbers
+written bytes = record { number = 0; bytes = bytes }
+
+abbrev pub unwritten : ℕ → FramedNumbers
+unwritten number = record { number = number; bytes = 0 }
+
+-- "72: state unfit; nothing changed". The papers give no number to frames that are asked for before the walk has ended, nor to a buffer that is too
+-- small for them: 87 and 88 are free in them.
+abbrev pub framedNumbers : Framed → FramedNumbers
+framedNumbers (Written bytes) = written bytes
+framedNumbers Unfit = unwritten 72
+framedNumbers NotEnded = unwritten 87
+framedNumbers TooSmall = unwritten 88
+
+-- The answer in numbers, and what is then in the lent buffer.
 pub record Framing : Type 0 where
-  pub answer : Framed
+  pub says : FramedNumbers
   pub out : List ℕ
+
+-- What the code answers, with what the buffer then holds.
+abbrev pub framedBy : Framed → List ℕ → Framing
+framedBy framed out = record { says = framedNumbers framed; out = out }
+
+-- Nothing is written: the buffer is as it was.
+abbrev pub untouched : ℕ → List ℕ → Framing
+untouched number out = record { says = unwritten number; out = out }
 
 -- Frames written at the front of the buffer, or none where it is too small.
 abbrev pub fitted : List ℕ → List ℕ → Framing
 fitted frames out =
     if ltb (length out) (length frames)
-    then record { answer = TooSmall; out = out }
-    else record { answer = Written (length frames); out = frames ++ drop (length frames) out }
+    then untouched 88 out
+    else record { says = written (length frames); out = frames ++ drop (length frames) out }
 
 -- A walk that still reads was not accepted, the phase after F included.
 abbrev pub isAccepted : Standing → Bool
@@ -67,7 +95,7 @@ isAccepted (walks.refused says) = false
 
 -- Frames come only for a walk that has ended: accepted or refused.
 abbrev pub standingFrames : Walk → List Employer → List ℕ → Standing → Framing
-standingFrames walk list out (walks.reading phase) = record { answer = NotEnded; out = out }
+standingFrames walk list out (walks.reading phase) = untouched 87 out
 standingFrames walk list out walks.accepted = fitted (employerFrames (take (walk .all .employers) list) ++ closingFrame (walk .all)) out
 standingFrames walk list out (walks.refused says) = fitted (refusalFrame says) out
 
@@ -78,5 +106,5 @@ roomWithout walk list = record { ids = walk .used; list = length list }
 unfoldable pub framing : Walk → List Employer → List ℕ → Framing
 framing walk list out =
     if unfit (roomWithout walk list) walk
-    then record { answer = Unfit; out = out }
+    then untouched 72 out
     else standingFrames walk list out (walk .standing)

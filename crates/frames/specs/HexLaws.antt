@@ -1,7 +1,8 @@
 -- The laws of numbers in hexadecimal: as many bytes as digits, and how a loop from the last digit down writes them.
-use Prim.Native.Nat.{ℕ, zero, suc, _+_, _-_, _/_, _%_, _<_, _≤_}
+use Prim.Native.Nat.{ℕ, zero, suc, _+_, _*_, _-_, _/_, _%_, _^_, _<_, _≤_}
 use mathlib.Core.List.{List}
 use mathlib.Core.Path.{_≡_, refl, ap, _∙_}
+use native.Mathlib.Nat.{mul-assoc, pow-succ'}
 use native.Mathlib.Omega.{arith}
 use lib.ListN.{length, set, length-append}
 use Rattle.frames.specs.Hex.{hexDigit, hex}
@@ -11,6 +12,16 @@ pub hex-length : (n v : ℕ) → length (hex n v) ≡ n
 unfolding hex
 hex-length zero v = refl
 hex-length (suc n) v = simp (length-append, hex-length n (v / 16)) (omega arith)
+
+-- What a number has above its last n digits does not count: of 8 digits, all from 2^32 on.
+pub hex-low : (n v k : ℕ) → hex n (v + 16 ^ n * k) ≡ hex n v
+unfolding hex
+hex-low zero v k = refl
+hex-low (suc n) v k =
+    let more : v + 16 ^ suc n * k ≡ v + 16 * (16 ^ n * k) = rw (pow-succ' 16 n, mul-assoc 16 (16 ^ n) k) in
+    let above : (v + 16 ^ suc n * k) / 16 ≡ v / 16 + 16 ^ n * k = rw more (omega arith) in
+    let digit : (v + 16 ^ suc n * k) % 16 ≡ v % 16 = rw more (omega arith) in
+    rw (above, digit, hex-low n (v / 16) k)
 
 -- ---- a loop's steps
 module _ (at : ℕ) (out : List ℕ) (v : ℕ) where

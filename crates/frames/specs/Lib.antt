@@ -5,3 +5,4 @@ pub mod Frames
 pub mod FrameLaws
 pub mod FirstByte
 pub mod Parts
+pub mod Once

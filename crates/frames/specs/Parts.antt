@@ -16,9 +16,8 @@ use Rattle.state.specs.UnfitLaws.{fit-file}
 use Rattle.state.specs.Walks as walks
 use Rattle.state.specs.Walks.{Standing, Walk}
 use Rattle.frames.specs.FrameLaws.{frames-length, none-written, all-length, all-written, too-small, fits, framing-unfit, framing-fit}
-use Rattle.frames.specs.Frames.{employerFrames, closingFrame, refusalFrame, Framing, fitted, standingFrames, framing}
+use Rattle.frames.specs.Frames.{employerFrames, closingFrame, refusalFrame, written, Framing, untouched, fitted, standingFrames, framing}
 use Rattle.frames.specs.Pasted.{pasted, pasted-length}
-use Rattle.frames.specs.declared.Framed.the-variants.{Written, Unfit, NotEnded, TooSmall}
 
 -- The bytes of an accepted file's frames.
 abbrev pub acceptedSize : Totals → ℕ
@@ -32,8 +31,8 @@ acceptedEmployers all size = if ltb size (acceptedSize all) then 0 else all .emp
 abbrev pub acceptedLast : Totals → List ℕ → Framing
 acceptedLast all out =
     if ltb (length out) (acceptedSize all)
-    then record { answer = TooSmall; out = out }
-    else record { answer = Written (acceptedSize all); out = pasted (35 * all .employers) (closingFrame all) out }
+    then untouched 88 out
+    else record { says = written (acceptedSize all); out = pasted (35 * all .employers) (closingFrame all) out }
 
 -- The same for each standing of a walk.
 abbrev pub standingEmployers : Walk → ℕ → Standing → ℕ
@@ -42,7 +41,7 @@ standingEmployers walk size walks.accepted = acceptedEmployers (walk .all) size
 standingEmployers walk size (walks.refused says) = 0
 
 abbrev pub standingLast : Walk → List ℕ → Standing → Framing
-standingLast walk out (walks.reading phase) = record { answer = NotEnded; out = out }
+standingLast walk out (walks.reading phase) = untouched 87 out
 standingLast walk out walks.accepted = acceptedLast (walk .all) out
 standingLast walk out (walks.refused says) = fitted (refusalFrame says) out
 
@@ -57,7 +56,7 @@ employersFramed walk list size =
 unfoldable pub lastFraming : Walk → ℕ → List ℕ → Framing
 lastFraming walk list out =
     if unfit (record { ids = walk .used; list = list }) walk
-    then record { answer = Unfit; out = out }
+    then untouched 72 out
     else standingLast walk out (walk .standing)
 
 -- ---- the employers' frames have room
@@ -101,7 +100,7 @@ module _ (list : List Employer) (out : List ℕ) where
 
     accepted-all : (small : Bool) → ltb (length out) (acceptedSize all) ≡ small → acceptedLast all (front (if small then 0 else all .employers)) ≡ fitted frames out
     accepted-all true e =
-        let none : acceptedLast all out ≡ record { answer = TooSmall; out = out } = rw e in
+        let none : acceptedLast all out ≡ untouched 88 out = rw e in
         ap (acceptedLast all) (sym (none-written list out)) ∙ none ∙ sym (too-small frames out (acceptedSize all) (all-length list all within) (ltb-true _ _ e))
     accepted-all false e =
         let n = all .employers in
@@ -115,15 +114,15 @@ module _ (list : List Employer) (out : List ℕ) where
 
     standing-all : walk .all .employers ≤ length list → (s : Standing)
         → standingLast walk (front (standingEmployers walk (length out) s)) s ≡ standingFrames walk list out s
-    standing-all within (walks.reading phase) = ap (λ (o : List ℕ). record { answer = NotEnded; out = o }) (sym (none-written list out))
+    standing-all within (walks.reading phase) = ap (untouched 87) (sym (none-written list out))
     standing-all within walks.accepted = accepted-all (walk .all) within _ refl
     standing-all within (walks.refused says) = ap (fitted (refusalFrame says)) (sym (none-written list out))
 
     by-fitness : (u : Bool) → unfit (record { ids = walk .used; list = length list }) walk ≡ u → parts ≡ framing walk list out
     unfolding employersFramed lastFraming
     by-fitness true e =
-        let none : parts ≡ record { answer = Unfit; out = front 0 } = rw e in
-        none ∙ ap (λ (o : List ℕ). record { answer = Unfit; out = o }) (sym (none-written list out)) ∙ sym (framing-unfit walk list out _ refl e)
+        let none : parts ≡ untouched 72 (front 0) = rw e in
+        none ∙ ap (untouched 72) (sym (none-written list out)) ∙ sym (framing-unfit walk list out _ refl e)
     by-fitness false e =
         let s = walk .standing in
         let some : parts ≡ standingLast walk (front (standingEmployers walk (length out) s)) s = rw e in

@@ -14,7 +14,7 @@ ghost use Rattle.tables.specs.Room.{mostEmployers};
 ghost use Rattle.state.specs.Walks.{walkOf, standingOf};
 ghost use Rattle.frames.specs.Hex.{hexDigit, hex};
 ghost use Rattle.frames.specs.Pasted.{pasted};
-ghost use Rattle.frames.specs.Frames.{employerFrame, employerFrames, refusalFrame, fitted, isAccepted, framing};
+ghost use Rattle.frames.specs.Frames.{employerFrame, employerFrames, refusalFrame, framedBy, fitted, isAccepted, framing};
 ghost use Rattle.frames.specs.FrameLaws.{threeNumbers};
 ghost use Rattle.frames.specs.Parts.{acceptedSize, acceptedEmployers, acceptedLast, employersFramed, lastFraming};
 
@@ -107,7 +107,7 @@ fn accepted_employers(all: Totals, size: usize) -> usize
 // The closing frame, behind those of the employers.
 fn accepted(all: Totals, out: &mut [u8]) -> Framed
     requires { ⌜ all .employers ≤ mostEmployers ⌝ }
-    ensures { λ r. ⌜ record { answer = r; out = now (out .exit) } ≡ acceptedLast all (now (out .entry)) ⌝ }
+    ensures { λ r. ⌜ framedBy r (now (out .exit)) ≡ acceptedLast all (now (out .entry)) ⌝ }
 {
     let size = accepted_size(all);
     if out.len() < size {
@@ -119,7 +119,7 @@ fn accepted(all: Totals, out: &mut [u8]) -> Framed
 
 // A refusal has one frame.
 fn refused(refusal: Refusal, out: &mut [u8]) -> Framed
-    ensures { λ r. ⌜ record { answer = r; out = now (out .exit) } ≡ fitted (refusalFrame (noticeOf refusal)) (now (out .entry)) ⌝ }
+    ensures { λ r. ⌜ framedBy r (now (out .exit)) ≡ fitted (refusalFrame (noticeOf refusal)) (now (out .entry)) ⌝ }
 {
     if out.len() < 17 {
         return Framed::TooSmall;
@@ -161,7 +161,7 @@ fn employers_framed(st: State, room: usize, size: usize) -> usize
 
 // The last frame, behind those of the employers, and the answer.
 fn last_frame(st: State, room: usize, out: &mut [u8]) -> Framed
-    ensures { λ r. ⌜ record { answer = r; out = now (out .exit) } ≡ lastFraming (walkOf st) room (now (out .entry)) ⌝ }
+    ensures { λ r. ⌜ framedBy r (now (out .exit)) ≡ lastFraming (walkOf st) room (now (out .entry)) ⌝ }
 {
     if fitness::is_unfit(st, st.used, room) {
         return Framed::Unfit;
@@ -180,7 +180,7 @@ fn last_frame(st: State, room: usize, out: &mut [u8]) -> Framed
 // The acknowledgement of a walk that has ended, at the front of the buffer: at most 35 bytes for each employer and 35 more. Only the frames of
 // employers need the list, so all that is decided is decided without it.
 pub fn frames(st: State, list: &[Employer], out: &mut [u8]) -> Framed
-    ensures { λ r. ⌜ record { answer = r; out = now (out .exit) } ≡ framing (walkOf st) (now (list .entry)) (now (out .entry)) ⌝ }
+    ensures { λ r. ⌜ framedBy r (now (out .exit)) ≡ framing (walkOf st) (now (list .entry)) (now (out .entry)) ⌝ }
 {
     let n = employers_framed(st, list.len(), out.len());
     put_employers(out, list, n);

@@ -18,7 +18,7 @@ use Rattle.state.specs.declared.State.{State}
 use Rattle.state.proofs.State as S
 use Rattle.state.proofs.State.Laws as S′
 use Rattle.frames.specs.declared.Framed.{Framed}
-use Rattle.frames.specs.Frames.{Framing, framing}
+use Rattle.frames.specs.Frames.{framedBy, framing}
 use Rattle.frames.specs.Parts.{employersFramed, lastFraming, HasRoom, framed-has, front, both-parts}
 use Rattle.frames.proofs.Framed as F
 use Rattle.frames.proofs.Framed.Laws as F′
@@ -39,7 +39,7 @@ ends = (gone (λ κs x f. refl), (gone (λ κs x f. refl), (given-slice 1 tt (pl
 
 -- what the callees say comes to the contract
 comes : (walk : Walk) (ys : List Employer) (out now last : List ℕ) (n : ℕ) (r : Framed) → n ≡ employersFramed walk (length ys) (length out) → now ≡ front ys out n
-    → _≡_ {A = Framing} (record { answer = r; out = last }) (lastFraming walk (length ys) now) → _≡_ {A = Framing} (record { answer = r; out = last }) (framing walk ys out)
+    → framedBy r last ≡ lastFraming walk (length ys) now → framedBy r last ≡ framing walk ys out
 comes walk ys out now last n r is-n wrote said =
     said ∙ ap (lastFraming walk (length ys)) (wrote ∙ ap (front ys out) is-n) ∙ both-parts ys out walk
 
@@ -91,7 +91,7 @@ module _ {M : Type 1} (𝓤 : URA M) (H : Heap 𝓤) (A : Atoms 𝓤) (W : Given
       -- [κ₁'s token; the buffer's last bytes; κ₀'s; _11 at 3; …]
       receives ! 25 refl (EL.lawful F.the-type F′.the-laws 𝓤 H A W tt .typed r _ r-is .0) $ returns ! (look ! 25 refl) $ lets-go ! 3 refl $ move ! (2 ∷ 0 ∷ 1 ∷ []) $ measures ! 2 refl (λ same₂.
       by ! (finishes W f.ended ends (f.clauses 𝓤 H A mem run) y (EL.val F.the-type F′.the-laws r) r (tt, (tt, (ws .1 .1 .0, tt))) (tt, (tt, (same₂ ∙ same₁, tt)))
-      (_≡_ {A = Framing} (record { answer = r; out = ws .1 .1 .0 }) (framing (walkOf st) (list .now) (out .now))) refl
+      (framedBy r (ws .1 .1 .0) ≡ framing (walkOf st) (list .now) (out .now)) refl
       (comes (walkOf st) (list .now) (out .now) (zs .0) (ws .1 .1 .0) n r is-n wrote said) (EL.makes F.the-type F′.the-plain 𝓤 H A r _ r-is))))))))
 
 pub frames-spec : {M : Type 1} → stated.statement M

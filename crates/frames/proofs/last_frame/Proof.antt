@@ -17,13 +17,12 @@ use Rattle.state.specs.declared.Stage.the-variants.{Reading, Accepted, Refused}
 use Rattle.frames.proofs.last_frame.Statement.{statement}
 use Rattle.frames.proofs.last_frame.Tie as tie
 use Rattle.frames.specs.FrameLaws.{is-accepted}
-use Rattle.frames.specs.Frames.{isAccepted}
+use Rattle.frames.specs.Frames.{untouched, isAccepted}
 use Rattle.frames.specs.Parts.{standingLast, lastFraming}
-use Rattle.frames.specs.declared.Framed.the-variants.{NotEnded}
 
 -- The stage that is left where a walk was neither accepted nor, by its tag, refused.
 not-ended : (walk : Walk) (out : List ℕ) (stage : Stage) → OneOf (0 ∷ 1 ∷ []) (tagOf the-type stage)
-    → isAccepted (standingOf stage) ≡ false → standingLast walk out (standingOf stage) ≡ record { answer = NotEnded; out = out }
+    → isAccepted (standingOf stage) ≡ false → standingLast walk out (standingOf stage) ≡ untouched 87 out
 not-ended walk out (Reading phase) tag e = refl
 not-ended walk out Accepted tag e = absurd (false≢true (sym e))
 not-ended walk out (Refused refusal) tag e = absurd (⊎-elim (eqb-false 2 0 refl) (eqb-false 2 1 refl) tag)
