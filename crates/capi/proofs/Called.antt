@@ -1,5 +1,9 @@
 -- The functions that the walks of this crate call, but for those that the walks below it call too.
+use Prim.Native.Nat.{ℕ}
+use mathlib.Core.List.{List}
 use mathlib.Core.Path.{_≡_, refl}
+use contract.Monad.{fact}
+use denote.Ref.{now}
 use denote.Struct.Laws as LL
 use Rattle.calendar.proofs.Quarter as Q
 use Rattle.calendar.proofs.Quarter.Laws as Q′
@@ -10,7 +14,7 @@ use Rattle.tables.proofs.Walk.{URA, Heap, Atoms, Given, Memory, Routine, Fun, S
 use Rattle.state.specs.Walks.{walkOf}
 use Rattle.state.proofs.State as S
 use Rattle.state.proofs.State.Laws as S′
-use Rattle.step.specs.Steps.{outOf, lineStep}
+use Rattle.step.specs.Steps.{Out, outOf, lineStep}
 use Rattle.step.proofs.Answer as An
 use Rattle.step.proofs.Answer.Laws as An′
 use Rattle.words.specs.Words.{walkIn}
@@ -19,7 +23,7 @@ use Rattle.walk.specs.Calls.{wholeFile}
 use Rattle.walk.proofs.line as line-fn
 use Rattle.walk.proofs.whole as whole-fn
 use Rattle.frames.specs.Frames.{framedNumbers}
-use Rattle.capi.specs.Exports.{numbers, Told, Promised, quarterOf, framingNumbers}
+use Rattle.capi.specs.Exports.{numbers, Told, Called, Opened, Continued, quarterOf, framingNumbers}
 use Rattle.capi.proofs.quarter as quarter-fn
 use Rattle.capi.proofs.tell as tell-fn
 use Rattle.capi.proofs.tell_no_place as tell-no-place-fn
@@ -44,9 +48,17 @@ module _ {M : Type 1} {𝓤 : URA M} {H : Heap 𝓤} {A : Atoms 𝓤} (W : Given
       (λ κs. LL.val An.the-type An′.the-laws) (λ κs. LL.tells An.the-type An′.the-laws)
 
   -- ---- what is told
+  -- `tell_opened` and `tell`, which differ in what they promise alone
+  abbrev pub telling : (Out → List ℕ → List ℕ → Called → Type 0) → Callee W
+  telling P = total W tell-fn.ended
+      (λ κs a. record { ghost = Unit {0}; requires = λ g. emp 𝓤; ensures = λ g r left. fact 𝓤 ((t : Tables) → P (outOf (a .0) t) (a .1 .0 .now) (a .1 .1 .0 .now) (record { number = r; state = now (left .1 .0); answer = now (left .1 .1 .0); left = t })) })
+      (λ κs a g. id⊢ 𝓤 (emp 𝓤)) (λ κs a g r ws. (t : Tables) → P (outOf (a .0) t) (a .1 .0 .now) (a .1 .1 .0 .now) (record { number = r; state = ws .1 .0; answer = ws .1 .1 .0; left = t })) (λ κs a g r ws. refl) (λ κs. vint w64) (λ κs. uint-tells w64)
+
+  abbrev pub tell-opened : Callee W
+  tell-opened = telling Opened
+
   abbrev pub tell : Callee W
-  tell = total W tell-fn.ended (tell-fn.clauses 𝓤 H A mem run) (λ κs a g. id⊢ 𝓤 (emp 𝓤))
-      (λ κs a g r ws. (t : Tables) → Promised (outOf (a .0) t) (a .1 .0 .now) (a .1 .1 .0 .now) (record { number = r; state = ws .1 .0; answer = ws .1 .1 .0; left = t })) (λ κs a g r ws. refl) (λ κs. vint w64) (λ κs. uint-tells w64)
+  tell = telling Continued
 
   abbrev pub tell-no-place : Callee W
   tell-no-place = total W tell-no-place-fn.ended (tell-no-place-fn.clauses 𝓤 H A mem run) (λ κs a g. id⊢ 𝓤 (emp 𝓤)) (λ κs a g r ws. Told (numbers (notice 72 0 0) 0) r (a .0 .now) (ws .0)) (λ κs a g r ws. refl) (λ κs. vint w64) (λ κs. uint-tells w64)

@@ -1,7 +1,7 @@
 -- The calls that several walks of this crate make.
 --     reads-state      the state's words are lent to `state_in`, and come back
 --     makes-quarter    `quarter`
---     tells            `tell`: the state's words and the answer's are given for good. They stand first, behind the tokens of their lifetimes
+--     tells            `tell_opened` or `tell`, by its promise: the state's words and the answer's are given for good. They stand first, behind the tokens of their lifetimes
 -- Each step takes `Given`, the rules of the kit's logic, and that the table of calls is monotone under a frame.
 use Prim.Native.Nat.{ℕ, _<_, _^_}
 use mathlib.Core.List.{List, [], _∷_}
@@ -23,14 +23,14 @@ use Rattle.tables.proofs.Walk.{named, w64, vint, flft, runs, ‵, _$_, uint-mak
 use Rattle.state.specs.Walks.{walkOf}
 use Rattle.state.specs.declared.State.{State}
 use Rattle.state.proofs.State as S
-use Rattle.step.specs.Steps.{outOf}
+use Rattle.step.specs.Steps.{Out, outOf}
 use Rattle.step.specs.declared.Answer.{Answer}
 use Rattle.step.proofs.Answer as An
 use Rattle.step.proofs.Answer.Laws as An′
 use Rattle.words.specs.Words.{walkIn}
 use Rattle.walk.proofs.Values.{quarter-val, state-val, answer-val}
-use Rattle.capi.specs.Exports.{Promised, quarterOf}
-use Rattle.capi.proofs.Called.{state-in, quarter, tell}
+use Rattle.capi.specs.Exports.{Called, quarterOf}
+use Rattle.capi.proofs.Called.{state-in, quarter, telling}
 use Rattle.capi.proofs.Lent.{valOf}
 
 module _ {M : Type 1} {𝓤 : URA M} {H : Heap 𝓤} {A : Atoms 𝓤} {K : Type 0} {W : Given 𝓤 H A} (mem : Memory → SProp 𝓤) (run : Routine → Fun 𝓤) {Γ : List (Item 𝓤)}
@@ -50,13 +50,13 @@ module _ {M : Type 1} {𝓤 : URA M} {H : Heap 𝓤} {A : Atoms 𝓤} {K : Type 
       asks t (quarter W mem run) known fm ((tt, tt, tt, (year, (month, tt)), (vint w64 year ∷ [], (vint w64 month ∷ [], tt))), tt) tt
       0 (made (uint-makes 𝓤 H A W w64 year _ (refl, year-fits)), (made (uint-makes 𝓤 H A W w64 month _ (refl, month-fits)), tt)) refl os (λ held _ is-held held-is. k held is-held held-is)
 
-  pub tells : K → Triple 𝓤 (C f) (Asked (tell W mem run)) → FmC 𝓤 H (W .laws) C → {κ κ′ : Lft} {s s′ : Share} (a : Answer) → Is An.the-row a (answer-val a ∷ []) → (state answer : RefT (List ℕ))
+  pub tells : K → (P : Out → List ℕ → List ℕ → Called → Type 0) → Triple 𝓤 (C f) (Asked (telling W mem run P)) → FmC 𝓤 H (W .laws) C → {κ κ′ : Lft} {s s′ : Share} (a : Answer) → Is An.the-row a (answer-val a ∷ []) → (state answer : RefT (List ℕ))
       → Opds K W (‵ (flft κ s) ∷ ‵ (flft κ′ s′) ∷ ‵ (MutSlice (named 0) κ u64 .own state (valOf state ∷ [])) ∷ ‵ (MutSlice (named 0) κ′ u64 .own answer (valOf answer ∷ [])) ∷ Γ) E xs (answer-val a ∷ valOf state ∷ valOf answer ∷ [])
       → ((r : ℕ) (after told : List ℕ) → r < 2 ^ 64 → length after ≡ length (state .now) → length told ≡ length (answer .now)
-      → ((t : room-of.Tables) → Promised (outOf a t) (state .now) (answer .now) (record { number = r; state = after; answer = told; left = t }))
+      → ((t : room-of.Tables) → P (outOf a t) (state .now) (answer .now) (record { number = r; state = after; answer = told; left = t }))
       → Seq K W (‵ (flft κ s) ∷ ‵ (flft κ′ s′) ∷ ‵ (finally u64 (state .name) after) ∷ ‵ (finally u64 (answer .name) told) ∷ Γ) (lands C Λ E d (vint w64 r) rest q))
       → Seq K W (‵ (flft κ s) ∷ ‵ (flft κ′ s′) ∷ ‵ (MutSlice (named 0) κ u64 .own state (valOf state ∷ [])) ∷ ‵ (MutSlice (named 0) κ′ u64 .own answer (valOf answer ∷ [])) ∷ Γ) (runs C Λ E (seq (call f xs d) rest) q)
-  tells t known fm {κ} {κ′} {s} {s′} a a-is state answer os k =
-      asks t (tell W mem run) known fm (((κ, (κ′, tt)), (s, (s′, tt)), tt, (a, (state, (answer, tt))), (answer-val a ∷ [], (valOf state ∷ [], (valOf answer ∷ [], tt)))), tt) tt
+  tells t P known fm {κ} {κ′} {s} {s′} a a-is state answer os k =
+      asks t (telling W mem run P) known fm (((κ, (κ′, tt)), (s, (s′, tt)), tt, (a, (state, (answer, tt))), (answer-val a ∷ [], (valOf state ∷ [], (valOf answer ∷ [], tt)))), tt) tt
       4 (made (LL.makes An.the-type An′.the-plain 𝓤 H A a _ a-is), (held, (held, tt))) refl os (λ r ws said r-is.
       measures t 2 refl (λ same. measures t 3 refl (λ same′. k r (ws .1 .0) (ws .1 .1 .0) (r-is .1) same same′ said)))

@@ -14,12 +14,13 @@ use Rattle.reason.specs.declared.Refusal.{Refusal}
 use Rattle.tables.specs.Room.{Tables}
 use Rattle.step.specs.Steps.{Out}
 use Rattle.words.specs.Words.{wordCount, putWords, walkIn}
+use Rattle.words.specs.Writing.{too-few}
 use Rattle.write.specs.Writing.{Writing, noticeIn, writtenBy}
 use Rattle.write.specs.declared.Wrote.{Wrote}
 use Rattle.write.specs.declared.Wrote.the-variants.{Refused}
 use Rattle.frames.specs.Frames.{framedNumbers, Framing, framedBy}
 use Rattle.frames.specs.declared.Framed.{Framed}
-use Rattle.capi.specs.Exports.{numbers, answered, Told, Called, isStill, stateAfter, called, Promised, placed, Filled, filled, writtenNumbers, filledRecord, readNumbers, readField, framingNumbers, filledFraming}
+use Rattle.capi.specs.Exports.{numbers, answered, Told, Called, called, Opened, isStill, Continued, placed, Filled, filled, writtenNumbers, filledRecord, readNumbers, readField, framingNumbers, filledFraming}
 use Rattle.capi.specs.declared.Numbers.{Numbers}
 
 -- ---- the answer's words
@@ -44,19 +45,22 @@ module _ (out : Out) (words answer : List ℕ) (n : Numbers) (number : ℕ) (aft
   is-number : number ≡ out .says .number
   is-number = told .0 ∙ ap (λ (m : Numbers). m .number) is-n
 
-  has-called : (state : List ℕ) → state ≡ stateAfter out words → has state ≡ called out words answer
-  has-called state is = rw (is-number, told .1 ∙ ap (λ (m : Numbers). answered m answer) is-n, is)
+  has-called : (state left : List ℕ) → state ≡ left → has state ≡ called out left answer
+  has-called state left is = rw (is-number, told .1 ∙ ap (λ (m : Numbers). answered m answer) is-n, is)
 
-  pub words-kept : isStill number ≡ true → Promised out words answer (has words)
+  pub words-kept : isStill number ≡ true → Continued out words answer (has words)
   words-kept still =
       let is : isStill (out .says .number) ≡ true = ap isStill (sym is-number) ∙ still in
-      (has-called words (rw is), λ room moving. absurd (false≢true (sym moving ∙ is)))
+      (has-called words _ (rw is), λ room moving. absurd (false≢true (sym moving ∙ is)))
 
-  pub words-put : isStill number ≡ false → (state : List ℕ) → state ≡ putWords (out .walk) words → (wordCount ≤ length words → walkIn state ≡ out .walk)
-      → Promised out words answer (has state)
-  words-put moving state is tells =
-      let moves : isStill (out .says .number) ≡ false = ap isStill (sym is-number) ∙ moving in
-      (has-called state (rw moves is), λ room _. tells room)
+  module _ (state : List ℕ) (is : state ≡ putWords (out .walk) words) (tells : wordCount ≤ length words → walkIn state ≡ out .walk) where
+    pub words-opened : Opened out words answer (has state)
+    words-opened = (has-called state (putWords (out .walk) words) is, tells)
+
+    pub words-put : isStill number ≡ false → Continued out words answer (has state)
+    words-put moving =
+        let moves : isStill (out .says .number) ≡ false = ap isStill (sym is-number) ∙ moving in
+        (has-called state _ (rw moves is), λ room _. tells room)
 
 -- ---- a place for the state
 module _ (out : Out) (words : List ℕ) (t : Tables) where
@@ -64,8 +68,9 @@ module _ (out : Out) (words : List ℕ) (t : Tables) where
   has-place h = rw (le-ltb (length words) wordCount h)
 
   pub no-place : length words < wordCount → (answer : List ℕ) (number : ℕ) (after : List ℕ) → Told (numbers (notice 72 0 0) 0) number answer after
-      → Promised (placed out words t) words answer (record { number = number; state = words; answer = after; left = t })
-  no-place h answer number after told = rw (lt-ltb (length words) wordCount h, told .0, told .1) (refl, λ room. absurd (omega arith))
+      → Opened (placed out words t) words answer (record { number = number; state = words; answer = after; left = t })
+  no-place h answer number after told =
+      rw (lt-ltb (length words) wordCount h, told .0, told .1, ← too-few (walkIn words) words h) (refl, λ room. absurd (omega arith))
 
 -- ---- the calls that write into a lent slice
 module _ (number : ℕ) (out answer after : List ℕ) where

@@ -48,28 +48,36 @@ pub record Called : Type 0 where
   pub answer : List ℕ
   pub left : Tables
 
--- "71: line or end after acceptance; nothing changed", "72: state unfit; nothing changed"
-abbrev pub isStill : ℕ → Bool
-isStill number = eqb number 71 || eqb number 72
-
--- The state's words after a call: those of the walk that it leaves. Where nothing is changed, no word is written.
-abbrev pub stateAfter : Out → List ℕ → List ℕ
-stateAfter out words = if isStill (out .says .number) then words else putWords (out .walk) words
-
--- The caller lends the state's words and the answer's.
+-- After a call that leaves these words in the state.
 abbrev pub called : Out → List ℕ → List ℕ → Called
-called out words answer =
+called out state answer =
     record {
       number = out .says .number;
-      state = stateAfter out words;
+      state = state;
       answer = answered (numbers (out .says) (out .taken)) answer;
       left = out .left;
     }
 
--- What each call promises: that the caller has this, and that words written tell the walk that the call leaves, so that the next call goes on from it.
-abbrev pub Promised : Out → List ℕ → List ℕ → Called → Type 0
-Promised out words answer has =
-    (has ≡ called out words answer)
+-- What a call that opens a walk promises, lent the state's words and the answer's: it leaves the words of that walk, also of one that is refused (70),
+-- and they tell it, so that the next call goes on from it.
+abbrev pub Opened : Out → List ℕ → List ℕ → Called → Type 0
+Opened out words answer has =
+    (has ≡ called out (putWords (out .walk) words) answer)
+    × (wordCount ≤ length words → walkIn (has .state) ≡ out .walk)
+
+-- "70: .. each later line or end call answers 70 again and touches nothing", "71: line or end after acceptance; nothing changed",
+-- "72: state unfit; nothing changed"
+abbrev pub isStill : ℕ → Bool
+isStill number = eqb number 70 || eqb number 71 || eqb number 72
+
+-- The state's words after a line or end call. Where nothing is changed, no word is written.
+abbrev pub stateAfter : Out → List ℕ → List ℕ
+stateAfter out words = if isStill (out .says .number) then words else putWords (out .walk) words
+
+-- What a line call and an end call promise: the same, of these words.
+abbrev pub Continued : Out → List ℕ → List ℕ → Called → Type 0
+Continued out words answer has =
+    (has ≡ called out (stateAfter out words) answer)
     × (wordCount ≤ length words → isStill (out .says .number) ≡ false → walkIn (has .state) ≡ out .walk)
 
 -- Where there is no place to keep the state, a call that opens a walk answers 72 and touches no table.

@@ -1,5 +1,5 @@
 -- Calls through words are the calls of the walk: what a call leaves, the words tell to the next. Words that tell no walk are answered 72, and
--- nothing is changed.
+-- nothing is changed; those that tell a walk refused with 70 are answered 70 again, and nothing is touched.
 use Prim.Native.Nat.{ℕ, _≤_}
 use mathlib.Core.Bool.{Bool, true, false, false≢true}
 use mathlib.Core.List.{List, [], _∷_}
@@ -9,8 +9,7 @@ use lib.ListN.{length, drop, length-append, length-drop}
 use borrow.Author.Tests.{ne-eqb}
 use Rattle.laws.specs.Choice.{if_then_else_}
 use Rattle.laws.specs.Finding.{Finding, fine, broken}
-use Rattle.reason.specs.Numbers.{notice}
-use Rattle.calendar.specs.Quarters.{isAllowed}
+use Rattle.reason.specs.Numbers.{Notice, notice}
 use Rattle.calendar.specs.declared.Quarter.{Quarter}
 use Rattle.lines.specs.Lines.{Line, firstLine}
 use Rattle.chars.specs.Characters.{capitals}
@@ -31,11 +30,12 @@ use Rattle.write.specs.Writing.{noTables, refusalOf, writing}
 use Rattle.write.specs.WritingLaws.{unfit-first}
 use Rattle.frames.specs.FrameLaws.{framing-unfit}
 use Rattle.frames.specs.Frames.{Framing, roomWithout}
-use Rattle.step.specs.MoveLaws.{line-unfit, line-cases, end-unfit, end-fit, open-allowed, open-refused}
-use Rattle.step.specs.Moves.{Moved, contextOf, byVerdict, byStanding, endVerdict, endStanding, endMoved, openMoved}
+use Rattle.step.specs.MoveLaws.{line-unfit, line-fit, line-cases, end-unfit, end-fit}
+use Rattle.step.specs.Moves.{Moved, contextOf, byVerdict, byStanding, endVerdict, endStanding, endMoved}
 use Rattle.step.specs.Steps.{Out, carried, listedFein, listedId, openStep, lineStep, endStep}
+use Rattle.walk.specs.Calls.{wholeFile}
 use Rattle.capi.specs.ExportLaws.{has-place}
-use Rattle.capi.specs.Exports.{numbers, answered, Called, isStill, called, Promised, openThrough, lineThrough, endThrough, Filled, filledRecord, filledT, filledF, filledFraming, filledFrames}
+use Rattle.capi.specs.Exports.{numbers, answered, Called, called, Opened, isStill, stateAfter, Continued, placed, openThrough, lineThrough, endThrough, wholeThrough, Filled, filledRecord, filledT, filledF, filledFraming, filledFrames}
 
 -- ---- one call
 -- What the caller has after a call through words is what the walk's own call answers: the number, the tables, and the walk that the words then tell.
@@ -50,39 +50,40 @@ put-length : (walk : Walk) (words : List ℕ) → wordCount ≤ length words →
 put-length walk words room =
     rw (enough walk words room, length-append (wordsOf walk) (drop wordCount words), words-length walk, length-drop wordCount words) (omega arith)
 
-module _ (out : Out) (words answer : List ℕ) (has : Called) (room : wordCount ≤ length words) (promised : Promised out words answer has) where
-  state-is : (still : Bool) → isStill (out .says .number) ≡ still → has .state ≡ (if still then words else putWords (out .walk) words)
-  state-is still e = ap (λ (c : Called). c .state) (promised .0) ∙ ap (λ (b : Bool). if b then words else putWords (out .walk) words) e
+module _ (out : Out) (words answer : List ℕ) (has : Called) (room : wordCount ≤ length words) where
+  follow : (state : List ℕ) → has ≡ called out state answer → walkIn (has .state) ≡ out .walk → length state ≡ length words → Follows out words has
+  follow state is walk same =
+      record {
+        number = ap (λ (c : Called). c .number) is;
+        left = ap (λ (c : Called). c .left) is;
+        walk = walk;
+        room = ap (λ (c : Called). length (c .state)) is ∙ same;
+      }
 
-  -- A call that answers 71 or 72 leaves the walk as it was.
-  pub follows : (isStill (out .says .number) ≡ true → out .walk ≡ walkIn words) → Follows out words has
-  follows stands = at (isStill (out .says .number)) refl
+  opened-follows : Opened out words answer has → Follows out words has
+  opened-follows promised = follow (putWords (out .walk) words) (promised .0) (promised .1 room) (put-length (out .walk) words room)
+
+  -- A call that answers 70, 71 or 72 leaves the walk as it was.
+  continued-follows : Continued out words answer has → (isStill (out .says .number) ≡ true → out .walk ≡ walkIn words) → Follows out words has
+  continued-follows promised stands = at (isStill (out .says .number)) refl
     where
-      at : (still : Bool) → isStill (out .says .number) ≡ still → Follows out words has
-      at true e =
-          record {
-            number = ap (λ (c : Called). c .number) (promised .0);
-            left = ap (λ (c : Called). c .left) (promised .0);
-            walk = ap walkIn (state-is true e) ∙ sym (stands e);
-            room = ap length (state-is true e);
-          }
-      at false e =
-          record {
-            number = ap (λ (c : Called). c .number) (promised .0);
-            left = ap (λ (c : Called). c .left) (promised .0);
-            walk = promised .1 room e;
-            room = ap length (state-is false e) ∙ put-length (out .walk) words room;
-          }
+      left-by : (still : Bool) → isStill (out .says .number) ≡ still → has ≡ called out (if still then words else putWords (out .walk) words) answer
+      left-by still e = promised .0 ∙ ap (λ (b : Bool). called out (if b then words else putWords (out .walk) words) answer) e
 
--- ---- 71 and 72 leave the walk as it was
+      at : (still : Bool) → isStill (out .says .number) ≡ still → Follows out words has
+      at true e = follow words (left-by true e) (ap (λ (c : Called). walkIn (c .state)) (left-by true e) ∙ sym (stands e)) refl
+      at false e = follow (putWords (out .walk) words) (left-by false e) (promised .1 room e) (put-length (out .walk) words room)
+
+-- ---- 70, 71 and 72 leave the walk as it was
 abbrev Stands : Walk → Moved → Type 0
 Stands walk m = isStill (m .says .number) ≡ true → m .walk ≡ walk
 
 edit-moves : (number : ℕ) → (1 ≤ number) × (number ≤ 65) → isStill number ≡ true → ⊥
 edit-moves number within still =
+    let not-70 : number ≡ 70 → ⊥ = λ (e : number ≡ 70). omega (arith, e, within .1) in
     let not-71 : number ≡ 71 → ⊥ = λ (e : number ≡ 71). omega (arith, e, within .1) in
     let not-72 : number ≡ 72 → ⊥ = λ (e : number ≡ 72). omega (arith, e, within .1) in
-    let moves : isStill number ≡ false = rw (ne-eqb number 71 not-71, ne-eqb number 72 not-72) in
+    let moves : isStill number ≡ false = rw (ne-eqb number 70 not-70, ne-eqb number 71 not-71, ne-eqb number 72 not-72) in
     false≢true (sym moves ∙ still)
 
 module _ (room : Room) (walk : Walk) where
@@ -108,24 +109,25 @@ module _ (room : Room) (walk : Walk) where
   end-stands true e = rw (end-unfit room walk e) (λ still. refl)
   end-stands false e = rw (end-fit room walk (walk .standing) e refl) (end-standing (walk .standing))
 
-open-moves : (held : Quarter) (allowed : Bool) → isAllowed held ≡ allowed → isStill (openMoved held .says .number) ≡ true → ⊥
-open-moves held true e = rw (open-allowed held e) false≢true
-open-moves held false e = rw (open-refused held e) false≢true
-
--- ---- opening, one line, the end
+-- ---- opening, one line, the end, a whole file
 module _ (words answer : List ℕ) (t : Tables) (has : Called) (room : wordCount ≤ length words) where
-  pub open-follows : (held : Quarter) → Promised (openThrough held words t) words answer has → Follows (openStep held t) words has
-  open-follows held promised = rw⁻¹ (has-place (openStep held t) words t room) (follows (openThrough held words t) words answer has room promised
-      (rw (has-place (openStep held t) words t room) (λ still. absurd (open-moves held _ refl still))))
+  placed-follows : (out : Out) → Opened (placed out words t) words answer has → Follows out words has
+  placed-follows out promised = rw⁻¹ (has-place out words t room) (opened-follows (placed out words t) words answer has room promised)
 
-  pub line-follows : (walk : Walk) → walkIn words ≡ walk → (bytes : List ℕ) → Promised (lineThrough bytes words t) words answer has
+  pub open-follows : (held : Quarter) → Opened (openThrough held words t) words answer has → Follows (openStep held t) words has
+  open-follows held = placed-follows (openStep held t)
+
+  pub whole-follows : (held : Quarter) (bytes : List ℕ) → Opened (wholeThrough held bytes words t) words answer has → Follows (wholeFile held bytes t) words has
+  whole-follows held bytes = placed-follows (wholeFile held bytes t)
+
+  pub line-follows : (walk : Walk) → walkIn words ≡ walk → (bytes : List ℕ) → Continued (lineThrough bytes words t) words answer has
       → Follows (lineStep walk (firstLine bytes) t) words has
-  line-follows walk tells bytes promised = rw (sym tells) (follows (lineThrough bytes words t) words answer has room promised
+  line-follows walk tells bytes promised = rw (sym tells) (continued-follows (lineThrough bytes words t) words answer has room promised
       (line-cases (roomOf t) (walkIn words) (Stands (walkIn words)) _ (firstLine bytes) (λ still. refl) (line-standing (roomOf t) (walkIn words) _ (firstLine bytes))))
 
-  pub end-follows : (walk : Walk) → walkIn words ≡ walk → Promised (endThrough words t) words answer has → Follows (endStep walk t) words has
+  pub end-follows : (walk : Walk) → walkIn words ≡ walk → Continued (endThrough words t) words answer has → Follows (endStep walk t) words has
   end-follows walk tells promised =
-      rw (sym tells) (follows (endThrough words t) words answer has room promised (end-stands (roomOf t) (walkIn words) _ refl))
+      rw (sym tells) (continued-follows (endThrough words t) words answer has room promised (end-stands (roomOf t) (walkIn words) _ refl))
 
 -- ---- calls one after the other
 -- A line call: the bytes and the answer's words that it was lent, and what the caller has after it.
@@ -137,7 +139,7 @@ pub record LineCall : Type 0 where
 -- Line calls in a row, each with the words and the tables that the last one left.
 abbrev pub InRow : List ℕ → Tables → List LineCall → Type 0
 InRow words t [] = Unit
-InRow words t (c ∷ calls) = Promised (lineThrough (c .bytes) words t) words (c .answer) (c .has) × InRow (c .has .state) (c .has .left) calls
+InRow words t (c ∷ calls) = Continued (lineThrough (c .bytes) words t) words (c .answer) (c .has) × InRow (c .has .state) (c .has .left) calls
 
 -- Each follows the walk's own call, which is made with the state and the tables that the walk's last call left.
 abbrev pub AllFollow : Walk → Tables → List ℕ → List LineCall → Type 0
@@ -155,22 +157,37 @@ calls-follow (c ∷ calls) words t walk tells room row =
     let enough-left : wordCount ≤ length (c .has .state) = rw (one .room) room in
     (one, calls-follow calls (c .has .state) (out .left) (out .walk) (one .walk) enough-left (subst (λ (left : Tables). InRow (c .has .state) left calls) (one .left) (row .1)))
 
--- ---- words that tell no walk
-module _ (words answer : List ℕ) (t : Tables) (has : Called) (unknown : Unknown words) where
-  -- 72, and nothing is changed but the answer's words.
-  abbrev unfitCall : Called
-  unfitCall = record { number = 72; state = words; answer = answered (numbers (notice 72 0 0) 0) answer; left = t }
+-- ---- calls that touch nothing
+module _ (words answer : List ℕ) (t : Tables) (has : Called) where
+  -- Nothing but the answer's words.
+  abbrev Untouched : Notice → Type 0
+  Untouched says = has ≡ record { number = says .number; state = words; answer = answered (numbers says 0) answer; left = t }
 
-  pub unknown-line : (bytes : List ℕ) → Promised (lineThrough bytes words t) words answer has → has ≡ unfitCall
-  unknown-line bytes promised =
-      let walk = walkIn words in
-      let line = firstLine bytes in
-      let seen = seenOn (listedFein walk t) (listedId walk t) (capitals (line .text)) in
-      promised .0 ∙ ap (λ (m : Moved). called (carried m t) words answer) (line-unfit (roomOf t) walk seen line (unknown-unfit (roomOf t) words unknown))
+  abbrev after : Moved → Called
+  after m = called (carried m t) (stateAfter (carried m t) words) answer
 
-  pub unknown-end : Promised (endThrough words t) words answer has → has ≡ unfitCall
-  unknown-end promised =
-      promised .0 ∙ ap (λ (m : Moved). called (carried m t) words answer) (end-unfit (roomOf t) (walkIn words) (unknown-unfit (roomOf t) words unknown))
+  abbrev seen : Line → Seen
+  seen line = seenOn (listedFein (walkIn words) t) (listedId (walkIn words) t) (capitals (line .text))
+
+  -- Words that tell no walk: 72.
+  module _ (unknown : Unknown words) where
+    pub unknown-line : (bytes : List ℕ) → Continued (lineThrough bytes words t) words answer has → Untouched (notice 72 0 0)
+    unknown-line bytes promised =
+        let line = firstLine bytes in
+        promised .0 ∙ ap after (line-unfit (roomOf t) (walkIn words) (seen line) line (unknown-unfit (roomOf t) words unknown))
+
+    pub unknown-end : Continued (endThrough words t) words answer has → Untouched (notice 72 0 0)
+    unknown-end promised = promised .0 ∙ ap after (end-unfit (roomOf t) (walkIn words) (unknown-unfit (roomOf t) words unknown))
+
+  -- Words that tell a walk refused with 70: "each later line or end call answers 70 again and touches nothing".
+  module _ (line column : ℕ) (stands : walkIn words .standing ≡ refused (notice 70 line column)) (fit : unfit (roomOf t) (walkIn words) ≡ false) where
+    pub again-line : (bytes : List ℕ) → Continued (lineThrough bytes words t) words answer has → Untouched (notice 70 line column)
+    again-line bytes promised =
+        let first = firstLine bytes in
+        promised .0 ∙ ap after (line-fit (roomOf t) (walkIn words) (seen first) first (refused (notice 70 line column)) fit stands)
+
+    pub again-end : Continued (endThrough words t) words answer has → Untouched (notice 70 line column)
+    again-end promised = promised .0 ∙ ap after (end-fit (roomOf t) (walkIn words) (refused (notice 70 line column)) fit stands)
 
 -- The same of the calls that write into a lent slice: nothing is written.
 module _ (words out answer : List ℕ) (unknown : Unknown words) where

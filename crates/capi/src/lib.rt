@@ -18,7 +18,7 @@ ghost use Rattle.step.specs.Moves.{noticeIn, takenIn};
 ghost use Rattle.step.specs.Steps.{outOf};
 ghost use Rattle.write.specs.Writing.{noticeIn as noticeOn};
 ghost use Rattle.frames.specs.Frames.{framedNumbers};
-ghost use Rattle.capi.specs.Exports.{numbers, Told, isStill, Promised, quarterOf, openThrough, lineThrough, endThrough, wholeThrough, writtenNumbers, filledT, filledF, filledBuilt, fieldFirst, fieldReading, fieldLength, readNumbers, readField, framingNumbers, filledFrames};
+ghost use Rattle.capi.specs.Exports.{numbers, Told, Opened, isStill, Continued, quarterOf, openThrough, lineThrough, endThrough, wholeThrough, writtenNumbers, filledT, filledF, filledBuilt, fieldFirst, fieldReading, fieldLength, readNumbers, readField, framingNumbers, filledFrames};
 
 // What a call answers: the paper's number, line and column, and a count of bytes, or the number that a field holds.
 struct Numbers {
@@ -127,20 +127,32 @@ fn framed_numbers(framed: Framed) -> Numbers
 }
 
 // ---- the calls of the walk
-// 71 and 72: nothing is changed.
+// After a call that opens a walk its state and its answer go into the words that the caller lent for them.
+fn tell_opened(a: Answer, state: &mut [u64], answer: &mut [u64]) -> u64
+    ensures { λ r. ⌜ ((t : Tables) → Opened (outOf a t) (now (state .entry)) (now (answer .entry)) (record { number = r; state = now (state .exit); answer = now (answer .exit); left = t })) ⌝ }
+{
+    let reply = a.reply;
+    let st = a.state;
+    words::put_words(st, state);
+    tell_numbers(reply_numbers(reply), answer)
+}
+
+// A line or end call that answers 70, 71 or 72 changes nothing.
 fn is_still(number: u64) -> bool
     ensures { λ r. ⌜ r ≡ isStill number ⌝ }
 {
-    if number == 71 {
-        return true;
+    match number {
+        70 => true,
+        71 => true,
+        72 => true,
+        _ => false,
     }
-    number == 72
 }
 
-// The state and the answer of a call go into the words that the caller lent for them. Where nothing is changed no word of the state is written:
-// to read words and put them back can change what no walk needs in them.
+// After a line or end call, likewise. But where nothing is changed no word of the state is written: to read words and put them back can change what no
+// walk needs in them.
 fn tell(a: Answer, state: &mut [u64], answer: &mut [u64]) -> u64
-    ensures { λ r. ⌜ ((t : Tables) → Promised (outOf a t) (now (state .entry)) (now (answer .entry)) (record { number = r; state = now (state .exit); answer = now (answer .exit); left = t })) ⌝ }
+    ensures { λ r. ⌜ ((t : Tables) → Continued (outOf a t) (now (state .entry)) (now (answer .entry)) (record { number = r; state = now (state .exit); answer = now (answer .exit); left = t })) ⌝ }
 {
     let reply = a.reply;
     let st = a.state;
@@ -175,13 +187,13 @@ pub extern "C" fn wage_open(
     ids: &mut [u32],
     list: &mut [Employer],
 ) -> u64
-    ensures { λ r. ⌜ Promised (openThrough (quarterOf year month) (now (state .entry)) (tablesOf (now (ids .entry)) (now (list .entry)))) (now (state .entry)) (now (answer .entry)) (record { number = r; state = now (state .exit); answer = now (answer .exit); left = tablesOf (now (ids .exit)) (now (list .exit)) }) ⌝ }
+    ensures { λ r. ⌜ Opened (openThrough (quarterOf year month) (now (state .entry)) (tablesOf (now (ids .entry)) (now (list .entry)))) (now (state .entry)) (now (answer .entry)) (record { number = r; state = now (state .exit); answer = now (answer .exit); left = tablesOf (now (ids .exit)) (now (list .exit)) }) ⌝ }
 {
     if state.len() < words::WORDS {
         return tell_no_place(answer);
     }
     let a = walk::open(quarter(year, month), ids, list);
-    tell(a, state, answer)
+    tell_opened(a, state, answer)
 }
 
 // One line: the first of the bytes lent.
@@ -193,7 +205,7 @@ pub extern "C" fn wage_line(
     ids: &mut [u32],
     list: &mut [Employer],
 ) -> u64
-    ensures { λ r. ⌜ Promised (lineThrough (now (bytes .entry)) (now (state .entry)) (tablesOf (now (ids .entry)) (now (list .entry)))) (now (state .entry)) (now (answer .entry)) (record { number = r; state = now (state .exit); answer = now (answer .exit); left = tablesOf (now (ids .exit)) (now (list .exit)) }) ⌝ }
+    ensures { λ r. ⌜ Continued (lineThrough (now (bytes .entry)) (now (state .entry)) (tablesOf (now (ids .entry)) (now (list .entry)))) (now (state .entry)) (now (answer .entry)) (record { number = r; state = now (state .exit); answer = now (answer .exit); left = tablesOf (now (ids .exit)) (now (list .exit)) }) ⌝ }
 {
     let st = words::state_in(state);
     let a = walk::line(st, bytes, ids, list);
@@ -208,7 +220,7 @@ pub extern "C" fn wage_end(
     ids: &mut [u32],
     list: &mut [Employer],
 ) -> u64
-    ensures { λ r. ⌜ Promised (endThrough (now (state .entry)) (tablesOf (now (ids .entry)) (now (list .entry)))) (now (state .entry)) (now (answer .entry)) (record { number = r; state = now (state .exit); answer = now (answer .exit); left = tablesOf (now (ids .exit)) (now (list .exit)) }) ⌝ }
+    ensures { λ r. ⌜ Continued (endThrough (now (state .entry)) (tablesOf (now (ids .entry)) (now (list .entry)))) (now (state .entry)) (now (answer .entry)) (record { number = r; state = now (state .exit); answer = now (answer .exit); left = tablesOf (now (ids .exit)) (now (list .exit)) }) ⌝ }
 {
     let st = words::state_in(state);
     let a = walk::end(st, ids, list);
@@ -226,13 +238,13 @@ pub extern "C" fn wage_whole(
     ids: &mut [u32],
     list: &mut [Employer],
 ) -> u64
-    ensures { λ r. ⌜ Promised (wholeThrough (quarterOf year month) (now (bytes .entry)) (now (state .entry)) (tablesOf (now (ids .entry)) (now (list .entry)))) (now (state .entry)) (now (answer .entry)) (record { number = r; state = now (state .exit); answer = now (answer .exit); left = tablesOf (now (ids .exit)) (now (list .exit)) }) ⌝ }
+    ensures { λ r. ⌜ Opened (wholeThrough (quarterOf year month) (now (bytes .entry)) (now (state .entry)) (tablesOf (now (ids .entry)) (now (list .entry)))) (now (state .entry)) (now (answer .entry)) (record { number = r; state = now (state .exit); answer = now (answer .exit); left = tablesOf (now (ids .exit)) (now (list .exit)) }) ⌝ }
 {
     if state.len() < words::WORDS {
         return tell_no_place(answer);
     }
     let a = walk::whole(quarter(year, month), bytes, ids, list);
-    tell(a, state, answer)
+    tell_opened(a, state, answer)
 }
 
 // ---- the calls that write into a lent slice

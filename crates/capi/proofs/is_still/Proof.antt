@@ -1,15 +1,14 @@
--- `capi::is_still` meets its contract.
-use borrow.Author.Tests.{eq-eqb, ne-eqb}
+-- `capi::is_still` meets its contract: in the arm of each number, the match has told that number.
+use borrow.Author.Tests.{ne-eqb}
 use Rattle.capi.proofs.is_still.Statement.{statement}
 use Rattle.capi.proofs.is_still.Tie as tie
 
-returns : tie.Need-returns
-returns c = rw (eq-eqb _ _ (c .if1 .taken))
-
-returns-2 : tie.Need-returns-2
-returns-2 c = rw (ne-eqb _ _ (c .if1 .left))
+returns-4 : tie.Need-returns-4
+returns-4 c =
+    let none = c .match .rest in
+    rw (ne-eqb _ 70 (none .0 .0 .1), ne-eqb _ 71 (none .0 .1), ne-eqb _ 72 (none .1))
 
 pub is-still-spec : {M : Type 1} → statement M
 is-still-spec =
     tie.close
-    (tie.spec returns returns-2)
+    (tie.spec (λ c. rw (c .match .keys1)) (λ c. rw (c .match .keys2)) (λ c. rw (c .match .keys3)) returns-4)

@@ -22,8 +22,8 @@ returns-2 c t =
     let told = still .before .before .before in
     let numbers = told .before .before in
     let args = numbers .before .before .before .before .args in
-    words-put (outOf (args .a) t) (args .state .now) (args .answer .now) _ _ _ (numbers .reply-numbers .ensures) (told .tell-numbers .ensures) (sym (still .is-still .ensures) ∙ else .if1 .left)
-    _ (put .put-words .ensures .0) (put .put-words .ensures .1)
+    words-put (outOf (args .a) t) (args .state .now) (args .answer .now) _ _ _ (numbers .reply-numbers .ensures) (told .tell-numbers .ensures)
+    _ (put .put-words .ensures .0) (put .put-words .ensures .1) (sym (still .is-still .ensures) ∙ else .if1 .left)
 
 pub tell-spec : {M : Type 1} → statement M
 tell-spec =

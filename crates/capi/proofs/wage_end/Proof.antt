@@ -24,7 +24,7 @@ use Rattle.walk.proofs.Called.{ends as end-call}
 use Rattle.walk.proofs.Values.{state-val}
 use Rattle.walk.proofs.end.Symbol.{name as #end, routine as end-routine}
 use Rattle.walk.proofs.end.Met as end-met
-use Rattle.capi.specs.Exports.{Called, Promised, endThrough}
+use Rattle.capi.specs.Exports.{Called, Continued, endThrough}
 use Rattle.capi.proofs.Called.{state-in, tell}
 use Rattle.capi.proofs.Lent.{valOf}
 use Rattle.capi.proofs.Steps.{reads-state, tells}
@@ -59,7 +59,7 @@ module _ {M : Type 1} (𝓤 : URA M) (H : Heap 𝓤) (A : Atoms 𝓤) (W : Given
   through = endThrough (state .now) (tablesOf′ (ids .now) (list .now))
 
   abbrev Leaves : Called → Out → Type 0
-  Leaves has out = Promised out (state .now) (answer .now) has
+  Leaves has out = Continued out (state .now) (answer .now) has
 
   -- [κ₀'s token; κ₁'s; κ₂'s; κ₃'s; the state; the answer; ids; the list; _16 at 8; _15 at 10; _14 at 12; _13 at 14; _12 at 16; _11 at 18; _10 at 20; _9 at 22; _8 at 24; _7 at 26; _6 at 28; _5 at 30; _4 at 32; _3 at 34; _2 at 36; _1 at 38; _0 at 40]
   walk : Sq W (‵ (flft κ₀ q₀) ∷ ‵ (flft κ₁ q₁) ∷ ‵ (flft κ₂ q₂) ∷ ‵ (flft κ₃ q₃) ∷ ‵ (MutSlice (named 0) κ₀ u64 .own state (valOf state ∷ [])) ∷ ‵ (MutSlice (named 0) κ₁ u64 .own answer (valOf answer ∷ [])) ∷ ‵ (MutSlice (named 0) κ₂ u32 .own ids (valOf ids ∷ []))
@@ -75,7 +75,7 @@ module _ {M : Type 1} (𝓤 : URA M) (H : Heap 𝓤) (A : Atoms 𝓤) (W : Given
       -- [κ₂'s token; κ₃'s; ids' last list; the list's last list; κ₀'s; the state; κ₁'s; the answer; _16 at 8; …]
       receives ! 28 refl (LL.lawful An.the-type An′.the-laws 𝓤 H A W .typed a _ a-is .0) $
       relends ! 38 14 12 (room₀ .0) refl refl refl refl refl refl refl refl $ relends ! 36 10 8 (room₁ .0) refl refl refl refl refl refl refl refl $ move ! (4 ∷ 6 ∷ 5 ∷ 7 ∷ []) $
-      tells mem run ! known-tell fm a a-is state answer (and-then ! (var ! 28 refl) (and-then ! (var ! 12 refl) (and-then ! (var ! 8 refl) (no-more !)))) (λ r after told fits same₀ same₁ said.
+      tells mem run ! Continued known-tell fm a a-is state answer (and-then ! (var ! 28 refl) (and-then ! (var ! 12 refl) (and-then ! (var ! 8 refl) (no-more !)))) (λ r after told fits same₀ same₁ said.
       -- [κ₀'s token; κ₁'s; the state's last words; the answer's; κ₂'s; κ₃'s; ids' last list; the list's last list; _16 at 8; …]
       let xs = zs .1 .0 in let ys = zs .1 .1 .0 in let has : Called = record { number = r; state = after; answer = told; left = tablesOf′ xs ys } in
       receives ! 40 refl (tt, record { fits = fits }) $ returns ! (look ! 40 refl) $ lets-go ! 8 refl $ move ! (0 ∷ 1 ∷ 4 ∷ 5 ∷ 2 ∷ 3 ∷ 6 ∷ 7 ∷ []) $

@@ -24,7 +24,7 @@ use Rattle.words.proofs.state_in.Met as state-in-met
 use Rattle.walk.proofs.Values.{state-val}
 use Rattle.walk.proofs.line.Symbol.{name as #line, routine as line-routine}
 use Rattle.walk.proofs.line.Met as line-met
-use Rattle.capi.specs.Exports.{Called, Promised, lineThrough}
+use Rattle.capi.specs.Exports.{Called, Continued, lineThrough}
 use Rattle.capi.proofs.Called.{state-in, lines, tell}
 use Rattle.capi.proofs.Lent.{valOf}
 use Rattle.capi.proofs.Steps.{reads-state, tells}
@@ -59,7 +59,7 @@ module _ {M : Type 1} (𝓤 : URA M) (H : Heap 𝓤) (A : Atoms 𝓤) (W : Given
   through = lineThrough (src .now) (state .now) (tablesOf′ (ids .now) (list .now))
 
   abbrev Leaves : Called → Out → Type 0
-  Leaves has out = Promised out (state .now) (answer .now) has
+  Leaves has out = Continued out (state .now) (answer .now) has
 
   -- [κ₀'s token; κ₁'s; κ₂'s; κ₃'s; κ₄'s; the state; the source; the answer; ids; the list; _17 at 10; _16 at 12; _15 at 14; _14 at 16; _13 at 18; _12 at 20; _11 at 22; _10 at 24; _9 at 26; _8 at 28; _7 at 30; _6 at 32; _5 at 34; _4 at 36; _3 at 38; _2 at 40; _1 at 42; _0 at 44]
   walk : Sq W (‵ (flft κ₀ q₀) ∷ ‵ (flft κ₁ q₁) ∷ ‵ (flft κ₂ q₂) ∷ ‵ (flft κ₃ q₃) ∷ ‵ (flft κ₄ q₄) ∷ ‵ (MutSlice (named 0) κ₀ u64 .own state (valOf state ∷ [])) ∷ ‵ (ShrSlice (named 0) κ₁ u8 .own src (valOf src ∷ [])) ∷ ‵ (MutSlice (named 0) κ₂ u64 .own answer (valOf answer ∷ []))
@@ -75,7 +75,7 @@ module _ {M : Type 1} (𝓤 : URA M) (H : Heap 𝓤) (A : Atoms 𝓤) (W : Given
       -- [κ₁'s token; κ₃'s; κ₄'s; ids' last list; the list's last list; κ₀'s; the state; κ₂'s; the answer; _17 at 9; …]
       receives ! 29 refl (LL.lawful An.the-type An′.the-laws 𝓤 H A W .typed a _ a-is .0) $
       relends ! 41 15 13 (room₀ .0) refl refl refl refl refl refl refl refl $ relends ! 37 11 9 (room₂ .0) refl refl refl refl refl refl refl refl $ move ! (5 ∷ 7 ∷ 6 ∷ 8 ∷ []) $
-      tells mem run ! known-tell fm a a-is state answer (and-then ! (var ! 29 refl) (and-then ! (var ! 13 refl) (and-then ! (var ! 9 refl) (no-more !)))) (λ r after told fits same₀ same₂ said.
+      tells mem run ! Continued known-tell fm a a-is state answer (and-then ! (var ! 29 refl) (and-then ! (var ! 13 refl) (and-then ! (var ! 9 refl) (no-more !)))) (λ r after told fits same₀ same₂ said.
       -- [κ₀'s token; κ₂'s; the state's last words; the answer's; κ₁'s; κ₃'s; κ₄'s; ids' last list; the list's last list; _17 at 9; …]
       let xs = zs .1 .1 .0 in let ys = zs .1 .1 .1 .0 in let has : Called = record { number = r; state = after; answer = told; left = tablesOf′ xs ys } in
       receives ! 43 refl (tt, record { fits = fits }) $ returns ! (look ! 43 refl) $ lets-go ! 9 refl $ move ! (0 ∷ 4 ∷ 1 ∷ 5 ∷ 6 ∷ 2 ∷ 3 ∷ 7 ∷ 8 ∷ []) $

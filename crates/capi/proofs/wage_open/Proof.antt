@@ -24,17 +24,17 @@ use Rattle.walk.proofs.Called.{opens}
 use Rattle.walk.proofs.Values.{quarter-val}
 use Rattle.walk.proofs.open.Symbol.{name as #open, routine as open-routine}
 use Rattle.walk.proofs.open.Met as open-met
-use Rattle.capi.specs.Exports.{Called, Promised, placed, quarterOf}
+use Rattle.capi.specs.Exports.{Called, Opened, placed, quarterOf}
 use Rattle.capi.specs.ExportLaws.{has-place, no-place}
-use Rattle.capi.proofs.Called.{quarter, tell, tell-no-place}
+use Rattle.capi.proofs.Called.{quarter, tell-no-place, tell-opened}
 use Rattle.capi.proofs.Lent.{valOf, spares}
 use Rattle.capi.proofs.Steps.{makes-quarter, tells}
 use Rattle.capi.proofs.quarter.Symbol.{name as #quarter, routine as quarter-routine}
 use Rattle.capi.proofs.quarter.Met as quarter-met
-use Rattle.capi.proofs.tell.Symbol.{name as #tell, routine as tell-routine}
-use Rattle.capi.proofs.tell.Met as tell-met
 use Rattle.capi.proofs.tell_no_place.Symbol.{name as #tell-no-place, routine as tell-no-place-routine}
 use Rattle.capi.proofs.tell_no_place.Met as tell-no-place-met
+use Rattle.capi.proofs.tell_opened.Symbol.{name as #tell-opened, routine as tell-opened-routine}
+use Rattle.capi.proofs.tell_opened.Met as tell-opened-met
 use Rattle.capi.proofs.wage_open as f
 use Rattle.capi.proofs.wage_open.Code as code
 use Rattle.capi.proofs.wage_open.Key.{name as #wage-open}
@@ -44,7 +44,7 @@ abbrev ends : Ends (f.ended .signature .params) (f.ended .kept)
 ends = (gone (λ κs x f. refl), (gone (λ κs x f. refl), (given-slice 0 tt (plain (λ _. u64)), (given-slice 1 tt (plain (λ _. u64)), (given-slice 2 tt (plain (λ _. u32)), (given-slice 3 tt (plain (λ _. T.the-row)), tt))))))
 
 module _ {M : Type 1} (𝓤 : URA M) (H : Heap 𝓤) (A : Atoms 𝓤) (W : Given 𝓤 H A) (mem : Memory → SProp 𝓤) (run : Routine → Fun 𝓤) (𝓣 : Tables 𝓤 H) (known-none : Triple 𝓤 (𝓣 .C #tell-no-place) (Asked (tell-no-place W mem run)))
-    (known-quarter : Triple 𝓤 (𝓣 .C #quarter) (Asked (quarter W mem run))) (known-open : Triple 𝓤 (𝓣 .C #open) (Asked (opens W mem run))) (known-tell : Triple 𝓤 (𝓣 .C #tell) (Asked (tell W mem run)))
+    (known-quarter : Triple 𝓤 (𝓣 .C #quarter) (Asked (quarter W mem run))) (known-open : Triple 𝓤 (𝓣 .C #open) (Asked (opens W mem run))) (known-tell : Triple 𝓤 (𝓣 .C #tell-opened) (Asked (tell-opened W mem run)))
     (κ₀ κ₁ κ₂ κ₃ : Lft) (q₀ q₁ q₂ q₃ : Share) (year month : ℕ) (state : RefT (List ℕ)) (answer : RefT (List ℕ)) (ids : RefT (List ℕ)) (list : RefT (List Employer)) (year-fits : year < 2 ^ 64) (month-fits : month < 2 ^ 64)
     (room₀ : Room u64 (length (state .now))) (room₁ : Room u64 (length (answer .now))) (room₂ : Room u32 (length (ids .now))) (room₃ : Room T.the-row (length (list .now))) (ps : Places (code.function .locals)) where
   abbrev En : Env 𝓤 H
@@ -67,7 +67,7 @@ module _ {M : Type 1} (𝓤 : URA M) (H : Heap 𝓤) (A : Atoms 𝓤) (W : Given
   opened = openStep (quarterOf year month) t
 
   abbrev Leaves : Called → Out → Type 0
-  Leaves has out = Promised out (state .now) (answer .now) has
+  Leaves has out = Opened out (state .now) (answer .now) has
 
   -- [κ₀'s token; κ₁'s; κ₂'s; κ₃'s; the state; the answer; ids; the list; _20 at 8; _19 at 10; _18 at 12; _17 at 14; _16 at 16; _15 at 18; _14 at 20; _13 at 22; _12 at 24; _11 at 26; _10 at 28; _9 at 30; _8 at 32; _7 at 34; _6 at 36; _5 at 38; _4 at 40; _3 at 42; _2 at 44; _1 at 46; _0 at 48]
   walk : Sq W (‵ (flft κ₀ q₀) ∷ ‵ (flft κ₁ q₁) ∷ ‵ (flft κ₂ q₂) ∷ ‵ (flft κ₃ q₃) ∷ ‵ (MutSlice (named 0) κ₀ u64 .own state (valOf state ∷ [])) ∷ ‵ (MutSlice (named 0) κ₁ u64 .own answer (valOf answer ∷ [])) ∷ ‵ (MutSlice (named 0) κ₂ u32 .own ids (valOf ids ∷ []))
@@ -94,7 +94,7 @@ module _ {M : Type 1} (𝓤 : URA M) (H : Heap 𝓤) (A : Atoms 𝓤) (W : Given
       -- [κ₂'s token; κ₃'s; ids' last list; the list's last list; κ₀'s; κ₁'s; the state; the answer; _20 at 8; …]
       receives ! 34 refl (LL.lawful An.the-type An′.the-laws 𝓤 H A W .typed a _ a-is .0) $
       relends ! 42 14 12 (room₀ .0) refl refl refl refl refl refl refl refl $ relends ! 40 10 8 (room₁ .0) refl refl refl refl refl refl refl refl $ move ! (4 ∷ 5 ∷ 6 ∷ 7 ∷ []) $
-      tells mem run ! known-tell fm a a-is state answer (and-then ! (var ! 34 refl) (and-then ! (var ! 12 refl) (and-then ! (var ! 8 refl) (no-more !)))) (λ r after told fits same₀ same₁ said.
+      tells mem run ! Opened known-tell fm a a-is state answer (and-then ! (var ! 34 refl) (and-then ! (var ! 12 refl) (and-then ! (var ! 8 refl) (no-more !)))) (λ r after told fits same₀ same₁ said.
       -- [κ₀'s token; κ₁'s; the state's last words; the answer's; κ₂'s; κ₃'s; ids' last list; the list's last list; _20 at 8; …]
       let xs = zs .1 .0 in let ys = zs .1 .1 .0 in let has : Called = record { number = r; state = after; answer = told; left = tablesOf′ xs ys } in
       receives ! 48 refl (tt, record { fits = fits }) $ returns ! (look ! 48 refl) $ lets-go ! 8 refl $ move ! (0 ∷ 1 ∷ 4 ∷ 5 ∷ 2 ∷ 3 ∷ 6 ∷ 7 ∷ []) $
@@ -117,7 +117,7 @@ wage-open-spec 𝓤 H 𝓜 𝓖 𝓡 =
           (cited 𝓤 H (Asked (tell-no-place W (𝓜 .mem) (𝓡 .run))) 𝓜 𝓡 code.env #tell-no-place tell-no-place-routine code.calls-capi·tell-no-place (tell-no-place-met.met 𝓤 H 𝓜 𝓖 𝓡))
           (cited 𝓤 H (Asked (quarter W (𝓜 .mem) (𝓡 .run))) 𝓜 𝓡 code.env #quarter quarter-routine code.calls-capi·quarter (quarter-met.met 𝓤 H 𝓜 𝓖 𝓡))
           (cited 𝓤 H (Asked (opens W (𝓜 .mem) (𝓡 .run))) 𝓜 𝓡 code.env #open open-routine code.calls-walk·open (open-met.met 𝓤 H 𝓜 𝓖 𝓡))
-          (cited 𝓤 H (Asked (tell W (𝓜 .mem) (𝓡 .run))) 𝓜 𝓡 code.env #tell tell-routine code.calls-capi·tell (tell-met.met 𝓤 H 𝓜 𝓖 𝓡))
+          (cited 𝓤 H (Asked (tell-opened W (𝓜 .mem) (𝓡 .run))) 𝓜 𝓡 code.env #tell-opened tell-opened-routine code.calls-capi·tell-opened (tell-opened-met.met 𝓤 H 𝓜 𝓖 𝓡))
           (κs .0) (κs .1 .0) (κs .1 .1 .0) (κs .1 .1 .1 .0) (qs .0) (qs .1 .0) (qs .1 .1 .0) (qs .1 .1 .1 .0)
           (a .0) (a .1 .0) (a .1 .1 .0) (a .1 .1 .1 .0) (a .1 .1 .1 .1 .0) (a .1 .1 .1 .1 .1 .0) (are .0 .1) (are .1 .0 .1)
           (are .1 .1 .0 .0 .1) (are .1 .1 .1 .0 .0 .1) (are .1 .1 .1 .1 .0 .0 .1) (are .1 .1 .1 .1 .1 .0 .0 .1) ps,

@@ -24,17 +24,17 @@ use Rattle.walk.specs.Calls.{wholeFile}
 use Rattle.walk.proofs.Values.{quarter-val}
 use Rattle.walk.proofs.whole.Symbol.{name as #whole, routine as whole-routine}
 use Rattle.walk.proofs.whole.Met as whole-met
-use Rattle.capi.specs.Exports.{Called, Promised, placed, quarterOf}
+use Rattle.capi.specs.Exports.{Called, Opened, placed, quarterOf}
 use Rattle.capi.specs.ExportLaws.{has-place, no-place}
-use Rattle.capi.proofs.Called.{quarter, wholes, tell, tell-no-place}
+use Rattle.capi.proofs.Called.{quarter, wholes, tell-no-place, tell-opened}
 use Rattle.capi.proofs.Lent.{valOf, spares}
 use Rattle.capi.proofs.Steps.{makes-quarter, tells}
 use Rattle.capi.proofs.quarter.Symbol.{name as #quarter, routine as quarter-routine}
 use Rattle.capi.proofs.quarter.Met as quarter-met
-use Rattle.capi.proofs.tell.Symbol.{name as #tell, routine as tell-routine}
-use Rattle.capi.proofs.tell.Met as tell-met
 use Rattle.capi.proofs.tell_no_place.Symbol.{name as #tell-no-place, routine as tell-no-place-routine}
 use Rattle.capi.proofs.tell_no_place.Met as tell-no-place-met
+use Rattle.capi.proofs.tell_opened.Symbol.{name as #tell-opened, routine as tell-opened-routine}
+use Rattle.capi.proofs.tell_opened.Met as tell-opened-met
 use Rattle.capi.proofs.wage_whole as f
 use Rattle.capi.proofs.wage_whole.Code as code
 use Rattle.capi.proofs.wage_whole.Key.{name as #wage-whole}
@@ -44,7 +44,7 @@ abbrev ends : Ends (f.ended .signature .params) (f.ended .kept)
 ends = (gone (λ κs x f. refl), (gone (λ κs x f. refl), (gone (λ κs x f. refl), (given-slice 1 tt (plain (λ _. u64)), (given-slice 2 tt (plain (λ _. u64)), (given-slice 3 tt (plain (λ _. u32)), (given-slice 4 tt (plain (λ _. T.the-row)), tt)))))))
 
 module _ {M : Type 1} (𝓤 : URA M) (H : Heap 𝓤) (A : Atoms 𝓤) (W : Given 𝓤 H A) (mem : Memory → SProp 𝓤) (run : Routine → Fun 𝓤) (𝓣 : Tables 𝓤 H) (known-none : Triple 𝓤 (𝓣 .C #tell-no-place) (Asked (tell-no-place W mem run)))
-    (known-quarter : Triple 𝓤 (𝓣 .C #quarter) (Asked (quarter W mem run))) (known-whole : Triple 𝓤 (𝓣 .C #whole) (Asked (wholes W mem run))) (known-tell : Triple 𝓤 (𝓣 .C #tell) (Asked (tell W mem run)))
+    (known-quarter : Triple 𝓤 (𝓣 .C #quarter) (Asked (quarter W mem run))) (known-whole : Triple 𝓤 (𝓣 .C #whole) (Asked (wholes W mem run))) (known-tell : Triple 𝓤 (𝓣 .C #tell-opened) (Asked (tell-opened W mem run)))
     (κ₀ κ₁ κ₂ κ₃ κ₄ : Lft) (q₀ q₁ q₂ q₃ q₄ : Share) (year month : ℕ) (src : RefT (List ℕ)) (state : RefT (List ℕ)) (answer : RefT (List ℕ)) (ids : RefT (List ℕ)) (list : RefT (List Employer)) (year-fits : year < 2 ^ 64) (month-fits : month < 2 ^ 64)
     (room₁ : Room u64 (length (state .now))) (room₂ : Room u64 (length (answer .now))) (room₃ : Room u32 (length (ids .now))) (room₄ : Room T.the-row (length (list .now))) (ps : Places (code.function .locals)) where
   abbrev En : Env 𝓤 H
@@ -67,7 +67,7 @@ module _ {M : Type 1} (𝓤 : URA M) (H : Heap 𝓤) (A : Atoms 𝓤) (W : Given
   wholly = wholeFile (quarterOf year month) (src .now) t
 
   abbrev Leaves : Called → Out → Type 0
-  Leaves has out = Promised out (state .now) (answer .now) has
+  Leaves has out = Opened out (state .now) (answer .now) has
 
   -- [κ₀'s token; κ₁'s; κ₂'s; κ₃'s; κ₄'s; the source; the state; the answer; ids; the list; _21 at 10; _20 at 12; _19 at 14; _18 at 16; _17 at 18; _16 at 20; _15 at 22; _14 at 24; _13 at 26; _12 at 28; _11 at 30; _10 at 32; _9 at 34; _8 at 36; _7 at 38; _6 at 40; _5 at 42; _4 at 44; _3 at 46; _2 at 48; _1 at 50; _0 at 52]
   walk : Sq W (‵ (flft κ₀ q₀) ∷ ‵ (flft κ₁ q₁) ∷ ‵ (flft κ₂ q₂) ∷ ‵ (flft κ₃ q₃) ∷ ‵ (flft κ₄ q₄) ∷ ‵ (ShrSlice (named 0) κ₀ u8 .own src (valOf src ∷ [])) ∷ ‵ (MutSlice (named 0) κ₁ u64 .own state (valOf state ∷ [])) ∷ ‵ (MutSlice (named 0) κ₂ u64 .own answer (valOf answer ∷ []))
@@ -94,7 +94,7 @@ module _ {M : Type 1} (𝓤 : URA M) (H : Heap 𝓤) (A : Atoms 𝓤) (W : Given
       -- [κ₀'s token; κ₃'s; κ₄'s; ids' last list; the list's last list; κ₁'s; κ₂'s; the state; the answer; _21 at 9; …]
       receives ! 35 refl (LL.lawful An.the-type An′.the-laws 𝓤 H A W .typed a _ a-is .0) $
       relends ! 43 15 13 (room₁ .0) refl refl refl refl refl refl refl refl $ relends ! 41 11 9 (room₂ .0) refl refl refl refl refl refl refl refl $ move ! (5 ∷ 6 ∷ 7 ∷ 8 ∷ []) $
-      tells mem run ! known-tell fm a a-is state answer (and-then ! (var ! 35 refl) (and-then ! (var ! 13 refl) (and-then ! (var ! 9 refl) (no-more !)))) (λ r after told fits same₁ same₂ said.
+      tells mem run ! Opened known-tell fm a a-is state answer (and-then ! (var ! 35 refl) (and-then ! (var ! 13 refl) (and-then ! (var ! 9 refl) (no-more !)))) (λ r after told fits same₁ same₂ said.
       -- [κ₁'s token; κ₂'s; the state's last words; the answer's; κ₀'s; κ₃'s; κ₄'s; ids' last list; the list's last list; _21 at 9; …]
       let xs = zs .1 .1 .0 in let ys = zs .1 .1 .1 .0 in let has : Called = record { number = r; state = after; answer = told; left = tablesOf′ xs ys } in
       receives ! 51 refl (tt, record { fits = fits }) $ returns ! (look ! 51 refl) $ lets-go ! 9 refl $ move ! (4 ∷ 0 ∷ 1 ∷ 5 ∷ 6 ∷ 2 ∷ 3 ∷ 7 ∷ 8 ∷ []) $
@@ -117,7 +117,7 @@ wage-whole-spec 𝓤 H 𝓜 𝓖 𝓡 =
           (cited 𝓤 H (Asked (tell-no-place W (𝓜 .mem) (𝓡 .run))) 𝓜 𝓡 code.env #tell-no-place tell-no-place-routine code.calls-capi·tell-no-place (tell-no-place-met.met 𝓤 H 𝓜 𝓖 𝓡))
           (cited 𝓤 H (Asked (quarter W (𝓜 .mem) (𝓡 .run))) 𝓜 𝓡 code.env #quarter quarter-routine code.calls-capi·quarter (quarter-met.met 𝓤 H 𝓜 𝓖 𝓡))
           (cited 𝓤 H (Asked (wholes W (𝓜 .mem) (𝓡 .run))) 𝓜 𝓡 code.env #whole whole-routine code.calls-walk·whole (whole-met.met 𝓤 H 𝓜 𝓖 𝓡))
-          (cited 𝓤 H (Asked (tell W (𝓜 .mem) (𝓡 .run))) 𝓜 𝓡 code.env #tell tell-routine code.calls-capi·tell (tell-met.met 𝓤 H 𝓜 𝓖 𝓡))
+          (cited 𝓤 H (Asked (tell-opened W (𝓜 .mem) (𝓡 .run))) 𝓜 𝓡 code.env #tell-opened tell-opened-routine code.calls-capi·tell-opened (tell-opened-met.met 𝓤 H 𝓜 𝓖 𝓡))
           (κs .0) (κs .1 .0) (κs .1 .1 .0) (κs .1 .1 .1 .0) (κs .1 .1 .1 .1 .0) (qs .0) (qs .1 .0) (qs .1 .1 .0) (qs .1 .1 .1 .0) (qs .1 .1 .1 .1 .0)
           (a .0) (a .1 .0) (a .1 .1 .0) (a .1 .1 .1 .0) (a .1 .1 .1 .1 .0) (a .1 .1 .1 .1 .1 .0) (a .1 .1 .1 .1 .1 .1 .0) (are .0 .1) (are .1 .0 .1)
           (are .1 .1 .1 .0 .0 .1) (are .1 .1 .1 .1 .0 .0 .1) (are .1 .1 .1 .1 .1 .0 .0 .1) (are .1 .1 .1 .1 .1 .1 .0 .0 .1) ps,
