@@ -66,7 +66,7 @@ enum {
  *
  * A call reads any words. Fewer than 17, a standing above 6, or a refusal of a number that is not in the list above or in docs/REASONS.md tell no
  * walk, and the call answers 72. S_FOLLOW counts as 1 unless it is 0; LINE and LINES above 4,294,967,295 and COLUMN above 65,535 count as these. A
- * call of the walk then writes the state that it leaves, all 17 words; after 71 and 72 it writes none. */
+ * call of the walk then writes the state that it leaves, all 17 words; a line or end call that answers 70, 71 or 72 writes none. */
 enum {
     WAGE_STANDING = 0,         /* 0 before A, 1 after A, 2 E open, 3 after T, 4 after F, 5 accepted, 6 refused */
     WAGE_REFUSAL = 1,          /* the refusal's number, line and column; 0 unless refused */
@@ -94,8 +94,8 @@ enum {
  * end call; behind acceptance `list` holds the employers in file order, then zeros, and `ids` zeros. */
 
 /* Opens a walk for the last closed quarter, year 2025 to 9999 and month 3, 6, 9 or 12: zeroes both tables and fills the state. 70 for another
- * quarter: the state then holds that refusal, which each later line or end call answers again, and no table is touched. 72 for fewer than 17 words of
- * state: nothing is touched but the answer. */
+ * quarter: the state then holds that refusal, and no table is touched; each later line or end call answers it again and touches nothing but the answer.
+ * 72 for fewer than 17 words of state: nothing is touched but the answer. */
 uint64_t wage_open(uint64_t year, uint64_t month, uint64_t *state, size_t state_length, uint64_t *answer, size_t answer_length, uint32_t *ids,
                    size_t ids_length, wage_employer *list, size_t list_length);
 
@@ -218,7 +218,10 @@ uint64_t wage_field_first(uint8_t letter, size_t field);
 /* Writes the acknowledgement of a walk that has ended, by acceptance or by refusal, to the front of `out`; bytes behind it stay. It is lines of
  * hexadecimal, each with LF: 35 bytes for each employer and 35 more; 17 bytes for a refusal. The return value tells whether it was written, not whether
  * the file was accepted: that is WAGE_STANDING. In this order: 72, which compares the list alone; 87 if the walk has not ended; 88 if `out` is too
- * small. `out` is then untouched. */
+ * small. `out` is then untouched.
+ *
+ * A frame has 4 bytes for the FEIN and 4 for the count. Those of a file fit; of a larger one, which only the caller can have put into the list, the low
+ * 4 bytes are written. */
 #define WAGE_FRAMES_BYTES(employers) (35 * ((size_t)(employers) + 1))
 uint64_t wage_frames(const uint64_t *state, size_t state_length, const wage_employer *list, size_t list_length, uint8_t *out, size_t out_length,
                      uint64_t *answer, size_t answer_length);

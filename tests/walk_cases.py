@@ -93,23 +93,23 @@ class Program:
     def told(self, reply, words):
         return self.answered(reply) + "|" + told_numbers(words)
 
-    def called(self, words, call):
-        """The reply of a call over these words, which stay after 71 and 72, and the words that it leaves."""
+    def called(self, words, call, still=(70, 71, 72)):
+        """The reply of a call over these words, and the words that it leaves: after a line or end call that answers 70, 71 or 72, all as they were."""
         st, reply = call(exports.state_in(words[:self.words_lent]))
-        return reply, words if reply.number in (71, 72) else exports.words_of(st)
+        return reply, words if reply.number in still else exports.words_of(st)
 
-    def lend(self, given, call):
+    def lend(self, given, call, still=(70, 71, 72)):
         n, m = min(given["ids"], IDS), min(given["entries"], ENTRIES)
         ids, entries = self.ids[:n], self.entries[:m]
-        reply, self.words = self.called(self.words, lambda st: call(st, ids, entries))
+        reply, self.words = self.called(self.words, lambda st: call(st, ids, entries), still)
         self.ids[:n], self.entries[:m] = ids, entries
         return self.told(reply, self.words) + told_ids(self.ids) + told_entries(self.entries) + "\n"
 
     def opening(self, given, call):
-        """A call that needs room for a state: else 72, and nothing is touched."""
+        """A call that needs room for a state: else 72, and nothing is touched. It writes the state that it leaves, that of 70 too."""
         if self.words_lent < exports.WORDS:
             return self.lend(given, lambda st, ids, entries: (st, Reply(72)))
-        return self.lend(given, lambda st, ids, entries: call((given["year"], given["month"]), ids, entries))
+        return self.lend(given, lambda st, ids, entries: call((given["year"], given["month"]), ids, entries), still=())
 
     def alter(self, g):
         if g["at"] < IDS:
@@ -633,6 +633,19 @@ def odd_words(w):
         w.end()
 
 
+def seventy_again(w):
+    """Words that a call reads as others, in a walk refused with 70: a line or end call touches none of them, an opening writes all."""
+    w.lent = (2, 3)
+    for at, number in ((2, 2**32), (2, MOST), (3, 65536), (10, 2), (10, MOST)):
+        content(w)
+        w.state(standing(REFUSED, number=70))
+        w.word(at, number)
+        w.lines(a_record())
+        w.end()
+        w.line("")
+        w.open((2026, 5))
+
+
 def lent_short(w):
     """Fewer words of state than 17, and more; fewer words of the answer, and more; for every call."""
     w.lent = (2, 2)
@@ -689,7 +702,7 @@ def written(w):
 
 
 HAND = (accepted, in_one_slice, line_ends, afterwards, ends, bounds, no_bounds, room, nine_zeros, closing, totals, at_the_bounds, altered, other_lengths, beyond, no_walks,
-        odd_words, lent_short, frames, written)
+        odd_words, lent_short, frames, written, seventy_again)
 
 
 # Calls by chance.
@@ -906,7 +919,10 @@ def exports_by_hand():
     refused_52 = [6, 52, 3, 2] + [0] * 13
     accepted_state = [5, 0, 0, 0, 6, *HELD, *QUARTER, 0, 0, 0, 0, 2, 1, 123500, 0]
     told_52 = "52 3 2 0 |6 52 3 2 0 0 0 0 0 0 0 0 0 0 0 0 0 ||\n"
+    odd_70 = [6, 70, 2**32 + 3, 65537] + [0] * 6 + [2] + [0] * 6
+    told_70 = "70 4294967295 65535 0 |6 70 4294967299 65537 0 0 0 0 0 0 2 0 0 0 0 0 0 ||\n"
     entry = "T400000000000" + "00" + "0012345678" + "0000000002" + "0000000000000123500"
+    large = "T400000000000" + "00" + "%010d" % (2**32 + 12345678) + "%010d" % (2**32 + 2) + "0000000000000123500"
     frames = "0100BC614E00000002000000000001E26C/000000000200000001000000000001E26C/"
     return (
         ("words of a state that was opened", opened, [0, 0, 0, 0, 0, 2026, 6] + [0] * 10),
@@ -916,10 +932,13 @@ def exports_by_hand():
           "72 999 999 999 |7 0 0 0 0 2026 6 0 0 0 0 0 0 0 0 0 0 ||\n"]),
         ("a number that is not listed", called([6, 9, 3, 2] + [0] * 13, "E0101"), ["72 0 0 0 |6 9 3 2 0 0 0 0 0 0 0 0 0 0 0 0 0 ||\n"]),
         ("a line that is too large", called([6, 52, 2**32 + 3, 2] + [0] * 13, "E0101")[0][:21], "52 4294967295 2 0 |6 "),
+        ("70 again touches no word, an opening writes all", called(odd_70, "L0101|A", "E0101", "O02026050101"),
+         [told_70, told_70, "70 0 0 0 |6 70 0 0 0 0 0 0 0 0 0 0 0 0 0 0 0 ||\n"]),
         ("the paper's second frame", called(refused_52, "E0000", "F00017", "F00016"),
          [told_52, "0 0 0 17 |FF34000000030002/\n", "88 0 0 0 |" + "." * 16 + "\n"]),
         ("the paper's first frames", called(accepted_state, entry, "F01072", "F01069", "F00070"),
          ["", "0 0 0 70 |" + frames + "..\n", "88 0 0 0 |" + "." * 69 + "\n", "72 0 0 0 |" + "." * 70 + "\n"]),
+        ("the low bytes of an entry that is too large", called(accepted_state, large, "F01070"), ["", "0 0 0 70 |" + frames + "\n"]),
         ("frames before the end", called(opened, "F01003"), ["87 0 0 0 |...\n"]),
     )
 

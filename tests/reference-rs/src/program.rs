@@ -266,9 +266,10 @@ fn reply(answer: LineAnswer) -> Reply {
     ]
 }
 
-/// "71: [...] nothing changed", "72: [...] nothing changed": then no word is written.
+/// What a line or end call writes. "70: [...] each later line or end call answers 70 again and
+/// touches nothing", "71: [...] nothing changed", "72: [...] nothing changed": then no word.
 fn put_back(reply: Reply, state: &State, words: &mut Words) {
-    if !matches!(reply[0], 71 | 72) {
+    if !matches!(reply[0], 70..=72) {
         *words = words_of(state);
     }
 }
@@ -468,6 +469,22 @@ mod tests {
             "88 0 0 0 |................".to_string(),
         ];
         assert_eq!(printed, wanted);
+    }
+
+    /// 70 again touches no word, those that are read as others among them; an opening writes all.
+    #[test]
+    fn bad_quarter_again() {
+        let printed = printed_for(&[
+            command("O02026050403"),
+            command("N0200000000004294967299"),
+            command("N1000000000000000000002"),
+            command("L0403|"),
+            command("E0403"),
+            command("O02026050403"),
+        ]);
+        let opened = "70 0 0 0 |6 70 0 0 0 0 0 0 0 0 0 0 0 0 0 0 0 ||";
+        let altered = "70 4294967295 0 0 |6 70 4294967299 0 0 0 0 0 0 0 2 0 0 0 0 0 0 ||";
+        assert_eq!(printed, [opened, altered, altered, opened]);
     }
 
     /// Both tables are zeroed as far as they are lent, again with each call; 70 touches nothing.

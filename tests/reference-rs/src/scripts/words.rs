@@ -50,6 +50,10 @@ pub fn add(scenes: &mut Vec<Scene>) {
             }));
         }
     }
+    // 70 again touches none of them.
+    scenes.push(Box::new(|rng, script| {
+        wide_numbers(rng, script, &refused(70));
+    }));
     scenes.push(Box::new(numbers_of_refusals));
     scenes.push(Box::new(|_, script| flags(script)));
 }
