@@ -163,7 +163,7 @@ def rust_run():
     print("\n".join(line for line in done.stdout.splitlines() if line.endswith(" ... ok") or line.endswith("of the reference")))
     check("the Rust crate: %s%s" % (done.stdout, done.stderr), done.returncode == 0 and "%d files of the reference" % REFERENCE_FILES in done.stdout)
     for path in sorted(name for name in os.listdir(EXAMPLES) if name.endswith(".txt")):
-        done = cargo("run", "--release", "--quiet", "--example", "acknowledge", QUARTER, os.path.join(EXAMPLES, path))
+        done = cargo("run", "--release", "--quiet", "--example", "acknowledge", EARLIER.get(path[:-4], QUARTER), os.path.join(EXAMPLES, path))
         check("examples/%s in Rust: %r" % (path, done), done.stdout.encode() == read("examples", path[:-4] + ".frames"))
 
 
