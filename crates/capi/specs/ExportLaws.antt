@@ -70,7 +70,7 @@ module _ (out : Out) (words : List ℕ) (t : Tables) where
   pub no-place : length words < wordCount → (answer : List ℕ) (number : ℕ) (after : List ℕ) → Told (numbers (notice 72 0 0) 0) number answer after
       → Opened (placed out words t) words answer (record { number = number; state = words; answer = after; left = t })
   no-place h answer number after told =
-      rw (lt-ltb (length words) wordCount h, told .0, told .1, ← too-few (walkIn words) words h) (refl, λ room. absurd (omega arith))
+      rw (← too-few (placed out words t .walk) words h, lt-ltb (length words) wordCount h, told .0, told .1) (refl, λ room. absurd (omega arith))
 
 -- ---- the calls that write into a lent slice
 module _ (number : ℕ) (out answer after : List ℕ) where
