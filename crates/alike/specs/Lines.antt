@@ -21,7 +21,7 @@ use Rattle.record.specs.EmployeeLaws.{alike-judged, other-judged, employee-said
 use Rattle.record.specs.Employees.{isEmployee, blot, idOf, wagesOn}
 use Rattle.record.specs.Judge.{verdictBy, recordOn, editsAmong}
 use Rattle.record.specs.Passed.{Fits, passed-fits}
-use Rattle.record.specs.Place.{endTest, end-parts}
+use Rattle.record.specs.PlaceTables.{endTest, end-parts}
 use Rattle.record.specs.declared.said.EmployerOn.{EmployerOn}
 use Rattle.record.specs.declared.said.Said.{Said}
 use Rattle.record.specs.declared.said.Said.the-variants.{OfA, OfE, OfS, OfT, OfF, OfNone}

@@ -31,7 +31,7 @@ use Rattle.build.specs.Building.{partOf, building}
 use Rattle.build.specs.FillLaws.{padded-is}
 use Rattle.build.specs.StandLaws.{Stands, each-at, record-stands, blank-columns, none-read}
 use Rattle.build.specs.TextLaws.{only-blanks}
-use Rattle.build.specs.Theorems.{known-letters, Built, built-slice, built-passes, field-read-back}
+use Rattle.build.specs.Theorems.{amount-only, known-letters, Built, built-slice, built-passes, field-read-back}
 use Rattle.build.specs.Values.{amount, none, noAccount, formOf, Filled, formIn, fillRows, fillRecord, trimmed, textIn, amountIn, readBy, asRead}
 use Rattle.build.specs.declared.form.Form.{Form}
 use Rattle.build.specs.declared.form.Form.the-variants.{Account}
@@ -52,8 +52,7 @@ account-given letter (head ∷ rows) values texts (suc k) h is =
 -- A field that may be left out, and reads as a number, holds it.
 only-amount : (blank : Bool) (r : Reading) (v : ℕ) → (if blank then none else amountIn r) ≡ amount v → r ≡ value v
 only-amount true r v e = let z : _≡_ {A = ℕ} 0 1 = cc in absurd (omega arith)
-only-amount false (value w) v e = let same : w ≡ v = cc in rw same
-only-amount false (refused column number) v e = let z : _≡_ {A = ℕ} 0 1 = cc in absurd (omega arith)
+only-amount false r v e = amount-only r v e
 
 -- ---- a field of blanks
 blank-no-digit : isDigit 0x20 ≡ false

@@ -21,7 +21,7 @@ use Rattle.field.specs.declared.class.Class.{Class}
 use Rattle.layout.specs.Fields.{classIn, firstIn, lastIn, noRow}
 use Rattle.edits.specs.Edit.{firstBroken}
 use Rattle.edits.specs.EditLaws.{first-none, first-cons, first-append}
-use Rattle.edits.specs.Fields.{ownRest}
+use Rattle.edits.specs.Tests.{ownRest}
 use Rattle.edits.specs.Parts.{Wide, own-parts}
 use Rattle.edits.specs.declared.Marks.{Marks}
 use Rattle.text.specs.Put.{blanks}

@@ -1,12 +1,11 @@
 -- built-read-back, built-passes, turned-away-iff: what a caller may rely on when a record is built, and when it is not.
-use Prim.Native.Nat.{ℕ, zero, suc, _+_, _<_, _≤_}
+use Prim.Native.Nat.{ℕ, _+_, _<_, _≤_}
 use mathlib.Core.Bool.{Bool, true, false}
 use mathlib.Core.List.{List, [], _∷_, _++_, map}
 use mathlib.Core.Path.{_≡_, refl, sym, ap, _∙_}
-use native.Mathlib.Nat.{not-suc-le-zero, le-of-suc-le-suc}
 use native.Mathlib.Omega.{arith}
 use lib.Dec.{eqb, ltb}
-use lib.ListN.{length, getD, length-replicate, getD-replicate}
+use lib.ListN.{length, getD, length-replicate}
 use borrow.Author.Tests.{eqb-true, eq-eqb, ltb-true, ltb-false}
 use Rattle.laws.specs.Finding.{Finding, fine, broken, Reading, value, refused}
 use Rattle.laws.specs.Text.{bytes}
@@ -34,7 +33,7 @@ use Rattle.build.specs.Building.{partOf, padded, fitsIn, filledEdits, ed
 use Rattle.build.specs.FillLaws.{padded-is, padded-length}
 use Rattle.build.specs.ReadLaws.{Fits, ReadsBack, all-read}
 use Rattle.build.specs.RowLaws.{rows-tiled, rows-readable}
-use Rattle.build.specs.StandLaws.{Each, all-stand}
+use Rattle.build.specs.StandLaws.{Each, each-at, record-stands}
 use Rattle.build.specs.Values.{amount, none, Filled, formIn, fillRows, fillRecord, amountIn, readBy, asRead}
 use Rattle.build.specs.declared.form.Form.{Form}
 use Rattle.build.specs.declared.form.Form.the-variants.{Amount}
@@ -111,18 +110,9 @@ columns-everywhere letter line (row ∷ rows) from values texts t all k low high
       by false e begins later = later (omega (arith, ltb-false k (lastIn row) e)) high
 
 -- ---- a field by its number
-amount-only : (r : Reading) (v : ℕ) → amountIn r ≡ amount v → r ≡ value v
+pub amount-only : (r : Reading) (v : ℕ) → amountIn r ≡ amount v → r ≡ value v
 amount-only (value w) v e = let same : w ≡ v = cc in rw same
 amount-only (refused column number) v e = let z : _≡_ {A = ℕ} 0 1 = cc in absurd (omega arith)
-
-read-at : (letter : ℕ) (line : List ℕ) (rows : List (List ℕ)) (values texts : List ℕ) → Each (ReadsBack line) (fillRows letter rows values texts)
-    → (k : ℕ) → k < length rows
-    → readBy (formIn (getD rows k noRow)) line (firstIn (getD rows k noRow)) (lastIn (getD rows k noRow))
-    ≡ asRead (getD (map (λ (field : Filled). field .value) (fillRows letter rows values texts)) k none)
-unfolding fillRows
-read-at letter line [] values texts all k h = absurd (not-suc-le-zero h)
-read-at letter line (row ∷ rows) values texts all zero h = all .0
-read-at letter line (row ∷ rows) values texts all (suc k) h = read-at letter line rows _ _ (all .1) k (le-of-suc-le-suc h)
 
 -- ---- the theorems
 -- The letters of A, E and S name records.
@@ -186,8 +176,7 @@ module _ (letter : ℕ) (values texts out : List ℕ) where
     built-read-back =
         rw (built-slice built, padded-is given)
         (all-read letter (recordOf (map partOf given)) final-length (rowsFor (kindOf letter)) values texts (rows-readable (kindOf letter) known)
-        (all-stand letter (rowsFor (kindOf letter)) 1 values texts (blanks 290) (rows-tiled (kindOf letter) known) (omega arith) (length-replicate {A = ℕ} 290 0x20)
-        (λ k low high. getD-replicate {A = ℕ} 290 k 0x20 0 high))
+        (record-stands letter values texts known)
         (each-more (Passes marksFor (padded given)) Fits given (λ field passes. passes .fits) passing))
 
     -- The same of field k, counted from 0, by the row that the readers take; and of a number: it is read as the number given.
@@ -195,7 +184,7 @@ module _ (letter : ℕ) (values texts out : List ℕ) where
         → readBy (formIn (getD (rowsFor (kindOf letter)) k noRow)) (building letter values texts out .out) (firstIn (getD (rowsFor (kindOf letter)) k noRow))
         (lastIn (getD (rowsFor (kindOf letter)) k noRow))
         ≡ asRead (getD (map (λ (field : Filled). field .value) given) k none)
-    field-read-back k h = read-at letter (building letter values texts out .out) (rowsFor (kindOf letter)) values texts built-read-back k h
+    field-read-back k h = each-at (ReadsBack (building letter values texts out .out)) letter (rowsFor (kindOf letter)) values texts built-read-back k h
 
     pub number-read-back : (k : ℕ) → k < length (rowsFor (kindOf letter)) → formIn (getD (rowsFor (kindOf letter)) k noRow) ≡ Amount
         → (v : ℕ) → getD (map (λ (field : Filled). field .value) given) k none ≡ amount v

@@ -22,7 +22,7 @@ ghost use Rattle.chars.specs.Characters.{capitals};
 ghost use Rattle.field.specs.Classes.{classOf, classTest};
 ghost use Rattle.layout.specs.Fields.{classIn, firstIn, lastIn, noRow};
 ghost use Rattle.edits.specs.Edit.{firstBroken};
-ghost use Rattle.edits.specs.Fields.{ownRest};
+ghost use Rattle.edits.specs.Tests.{ownRest};
 ghost use Rattle.edits.specs.Parts.{Wide};
 ghost use Rattle.record.specs.Judge.{rowsFor};
 ghost use Rattle.record.specs.Kinds.{kindOf, marksOf};

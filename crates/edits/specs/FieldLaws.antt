@@ -6,7 +6,8 @@ use lib.ListN.{getD}
 use Rattle.laws.specs.Finding.{Finding, fine, broken}
 use Rattle.field.specs.Classes.{classOf, classTest}
 use Rattle.field.specs.declared.class.Class.{Class}
-use Rattle.edits.specs.Fields.{ruleOf, noRow, Around, rulesTest, fieldTest, fieldAt}
+use Rattle.edits.specs.Fields.{ruleOf, noRow, Around}
+use Rattle.edits.specs.Tests.{rulesTest, fieldTest, fieldAt}
 use Rattle.edits.specs.declared.Rule.{Rule}
 
 -- Field k, by its row and its class.

@@ -4,6 +4,7 @@ pub mod EditLaws
 pub mod Own
 pub mod WithContext
 pub mod Fields
+pub mod Tests
 pub mod FieldLaws
 pub mod Parts
 pub mod Lists

@@ -21,7 +21,8 @@ use Rattle.edits.specs.Edit.{firstBroken}
 use Rattle.edits.specs.EditLaws.{or-fine, or-assoc, or-same, first-append}
 use Rattle.edits.specs.Own.{isFinal, ceaseEdits, own}
 use Rattle.edits.specs.WithContext.{withContext}
-use Rattle.edits.specs.Fields.{ceaseRules, ceaseIn, ceaseTest, thirdQuarterTest, ownRest, Around, rulesTest, fieldTest}
+use Rattle.edits.specs.Fields.{Around}
+use Rattle.edits.specs.Tests.{ceaseRules, ceaseIn, ceaseTest, thirdQuarterTest, ownRest, rulesTest, fieldTest}
 use Rattle.edits.specs.declared.Marks.{Marks}
 use Rattle.edits.specs.declared.Rule.{Rule}
 

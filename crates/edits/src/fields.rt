@@ -17,7 +17,8 @@ ghost use Rattle.laws.specs.Finding.{firstOf};
 ghost use Rattle.reason.specs.Numbers.{findingOf};
 ghost use Rattle.chars.specs.Characters.{capitals};
 ghost use Rattle.chars.specs.Columns.{allowedTest, everyColumn};
-ghost use Rattle.edits.specs.Fields.{ruleOf, noRow, rulesTest, fieldsTest};
+ghost use Rattle.edits.specs.Fields.{ruleOf, noRow};
+ghost use Rattle.edits.specs.Tests.{rulesTest, fieldsTest};
 
 // The rule of a number.
 pub fn rule_of(number: u8) -> Rule

@@ -13,7 +13,7 @@ ghost use Rattle.number.specs.Numbers.{readingOf};
 ghost use Rattle.chars.specs.Characters.{capitals};
 ghost use Rattle.chars.specs.Columns.{unless};
 ghost use Rattle.edits.specs.Own.{isFinal};
-ghost use Rattle.edits.specs.Fields.{ceaseTest, thirdQuarterTest, ownRest};
+ghost use Rattle.edits.specs.Tests.{ceaseTest, thirdQuarterTest, ownRest};
 
 // A column is broken unless the rule passes.
 pub fn unless(passes: bool, column: u16, reason: Reason) -> Edit

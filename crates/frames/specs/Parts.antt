@@ -1,4 +1,4 @@
--- The frames in two parts, as the code writes them: those of the employers, for which it needs the list, and then the last one.
+-- Follows the code; need not be believed. The frames in two parts, as the code writes them: those of the employers, for which it needs the list, and then the last one.
 use Prim.Native.Nat.{ℕ, _+_, _*_, _≤_}
 use mathlib.Core.Bool.{Bool, true, false}
 use mathlib.Core.List.{List, _++_}

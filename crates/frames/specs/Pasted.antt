@@ -1,4 +1,4 @@
--- Bytes over a part of a buffer, and the laws of writing one part behind the other.
+-- Follows the code; need not be believed. Bytes over a part of a buffer, and the laws of writing one part behind the other.
 use Prim.Native.Nat.{ℕ, suc, _+_, _≤_, _<_}
 use mathlib.Core.List.{List, [], _∷_, _++_, append-assoc, append-nil}
 use mathlib.Core.Path.{_≡_, ap, _∙_}

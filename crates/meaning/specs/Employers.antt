@@ -17,7 +17,7 @@ use Rattle.edits.specs.declared.Totals.{Totals}
 use Rattle.record.specs.Among.{passed-size}
 use Rattle.record.specs.Judge.{Judged, refusal, passed, recordOn}
 use Rattle.record.specs.Passed.{Fits, passed-fits}
-use Rattle.record.specs.Place.{endTest, end-parts}
+use Rattle.record.specs.PlaceTables.{endTest, end-parts}
 use Rattle.record.specs.declared.said.EmployeeOn.{EmployeeOn}
 use Rattle.record.specs.declared.said.EmployerOn.{EmployerOn}
 use Rattle.record.specs.declared.said.Said.{Said}

@@ -25,7 +25,8 @@ use Rattle.edits.specs.declared.Context.{Context}
 use Rattle.edits.specs.declared.Phase.the-variants.{EOpen}
 use Rattle.edits.specs.declared.Rule.the-variants.{Nothing, YearOfA, PeriodOfA, FeinOfE, IdentityNew}
 use Rattle.record.specs.Judge.{placedEdits}
-use Rattle.record.specs.Place.{placeEdits, countEdit, mostEmployees, place-parts}
+use Rattle.record.specs.Place.{placeEdits, countEdit, mostEmployees}
+use Rattle.record.specs.PlaceTables.{place-parts}
 use Rattle.record.specs.Rules.{rulesOfS}
 use Rattle.record.specs.declared.kind.Kind.the-variants.{Employee}
 

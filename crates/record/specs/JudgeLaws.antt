@@ -12,7 +12,8 @@ use Rattle.lines.specs.Outcomes.{cut-parts, taken-is-size}
 use Rattle.chars.specs.Characters.{capitals}
 use Rattle.edits.specs.Edit.{firstBroken}
 use Rattle.edits.specs.EditLaws.{first-cons, first-append, or-assoc}
-use Rattle.edits.specs.Fields.{Around, fieldsTest}
+use Rattle.edits.specs.Fields.{Around}
+use Rattle.edits.specs.Tests.{fieldsTest}
 use Rattle.edits.specs.Lists.{fieldEdits}
 use Rattle.edits.specs.ListLaws.{fields-parts}
 use Rattle.edits.specs.declared.Context.{Context}

@@ -1,5 +1,6 @@
 pub mod Kinds
 pub mod Place
+pub mod PlaceTables
 pub mod Rules
 pub mod Judge
 pub mod Wide

@@ -36,7 +36,8 @@ use Rattle.edits.specs.declared.Rule.the-variants.{YearInTime, QuarterInTime, F
 use Rattle.edits.specs.declared.Seen.{Seen}
 use Rattle.record.specs.Among.{judged-size, passed-size}
 use Rattle.record.specs.Judge.{kindOn, around, headEdits, textEdits, rowsFor, saidBy, passed, judge, recordOn, seenBy, seenOn, judgeAmong}
-use Rattle.record.specs.Place.{placeEdits, countEdit, mostEmployees, placeTest, place-parts}
+use Rattle.record.specs.Place.{placeEdits, countEdit, mostEmployees}
+use Rattle.record.specs.PlaceTables.{placeTest, place-parts}
 use Rattle.record.specs.Rules.{rulesFor, rulesOfA, rulesOfE, rulesOfS}
 use Rattle.record.specs.Theorems.{accepted-iff}
 use Rattle.record.specs.declared.kind.Kind.{Kind}

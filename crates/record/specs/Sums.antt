@@ -34,7 +34,8 @@ use Rattle.edits.specs.declared.Seen.{Seen}
 use Rattle.record.specs.Judge.{kindOn, rowsFor, around, placedEdits, headEdits, textEdits, saidBy, passed, recordOn, judge}
 use Rattle.record.specs.JudgeLaws.{head-passes, cut-refuses, cut-takes}
 use Rattle.record.specs.Kinds.{kindOf, isKnown}
-use Rattle.record.specs.Place.{placeEdits, countEdit, placeTest, place-parts}
+use Rattle.record.specs.Place.{placeEdits, countEdit}
+use Rattle.record.specs.PlaceTables.{placeTest, place-parts}
 use Rattle.record.specs.Rules.{rulesOfT, rulesOfF, rulesFor}
 use Rattle.record.specs.Theorems.{not-passed, accepted-iff}
 use Rattle.record.specs.declared.kind.Kind.{Kind}

@@ -22,7 +22,7 @@ ghost use Rattle.reason.specs.Numbers.{findingOf};
 ghost use Rattle.lines.specs.Lines.{firstLine};
 ghost use Rattle.chars.specs.Characters.{capitals};
 ghost use Rattle.edits.specs.Edit.{firstBroken};
-ghost use Rattle.edits.specs.Fields.{fieldsTest};
+ghost use Rattle.edits.specs.Tests.{fieldsTest};
 ghost use Rattle.edits.specs.Lists.{fieldEdits};
 ghost use Rattle.layout.specs.Fields.{fields as allFields};
 ghost use Rattle.record.specs.Rules.{rules, rulesFor};

@@ -9,7 +9,8 @@ ghost use lib.Dec.{leb};
 ghost use Rattle.reason.specs.Numbers.{findingOf};
 ghost use Rattle.chars.specs.Columns.{unless};
 ghost use Rattle.edits.specs.Edit.{firstBroken};
-ghost use Rattle.record.specs.Place.{beforeA, afterA, underE, afterT, afterF, placeEdits, mostEmployees, countEdit, endEdits};
+ghost use Rattle.record.specs.Place.{placeEdits, mostEmployees, countEdit, endEdits};
+ghost use Rattle.record.specs.PlaceTables.{beforeA, afterA, underE, afterT, afterF};
 
 fn before_a(kind: Kind) -> Edit
     ensures { λ r. ⌜ findingOf r ≡ beforeA kind ⌝ }

@@ -16,7 +16,7 @@ use Rattle.edits.specs.declared.Totals.{Totals}
 use Rattle.record.specs.Among.{passed-size}
 use Rattle.record.specs.Judge.{Judged, refusal, passed}
 use Rattle.record.specs.Numbered.{refusal-numbered}
-use Rattle.record.specs.Place.{endTest, end-parts}
+use Rattle.record.specs.PlaceTables.{endTest, end-parts}
 use Rattle.record.specs.declared.said.Said.{Said}
 use Rattle.tables.specs.Room.{Room}
 use Rattle.tables.specs.declared.Employer.{Employer}

@@ -21,7 +21,7 @@ use Rattle.record.specs.Among.{passed-size, passed-positive}
 use Rattle.record.specs.Judge.{Judged, refusal, passed}
 use Rattle.record.specs.Passed.{passed-fits, Fits, Bounded, said-bounded}
 use Rattle.record.specs.Numbered.{refusal-numbered}
-use Rattle.record.specs.Place.{endTest, end-parts}
+use Rattle.record.specs.PlaceTables.{endTest, end-parts}
 use Rattle.record.specs.declared.said.Said.{Said}
 use Rattle.record.specs.declared.said.Said.the-variants.{OfNone}
 use Rattle.tables.specs.Pad.{pad-none}

@@ -16,7 +16,7 @@ use Rattle.edits.specs.declared.Phase.{Phase}
 use Rattle.edits.specs.declared.Phase.the-variants.{BeforeA, AfterA, EOpen, AfterT, AfterF}
 use Rattle.record.specs.Judge.{Judged, refusal, passed}
 use Rattle.record.specs.Numbered.{refusal-numbered}
-use Rattle.record.specs.Place.{endTest}
+use Rattle.record.specs.PlaceTables.{endTest}
 use Rattle.record.specs.declared.said.Said.{Said}
 use Rattle.tables.specs.Pad.{length-pad}
 use Rattle.tables.specs.Room.{Room, Tables, roomOf, zeroed}

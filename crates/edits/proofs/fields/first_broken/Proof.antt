@@ -16,7 +16,8 @@ use Rattle.chars.specs.Columns.{allowedTest}
 use Rattle.chars.specs.ColumnLaws.{column-of}
 use Rattle.field.specs.Classes.{classTest}
 use Rattle.field.specs.ClassLaws.{lead-breaks, lead-leaves}
-use Rattle.edits.specs.Fields.{Around, ruleOf, fieldAt, fieldsTest}
+use Rattle.edits.specs.Fields.{Around, ruleOf}
+use Rattle.edits.specs.Tests.{fieldAt, fieldsTest}
 use Rattle.edits.specs.FieldLaws.{class-breaks, class-passes}
 use Rattle.edits.proofs.fields.first_broken.Statement.{statement}
 use Rattle.edits.proofs.fields.first_broken.Tie as tie

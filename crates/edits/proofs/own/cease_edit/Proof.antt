@@ -1,7 +1,7 @@
 -- `edits::own::cease_edit` meets its contract: what the number reads as, then what each test of the date told.
 use borrow.Author.Tests.{eq-eqb, ne-eqb}
 use borrow.Author.Needs.{needs}
-use Rattle.edits.specs.Fields.{ceaseTest}
+use Rattle.edits.specs.Tests.{ceaseTest}
 use Rattle.edits.proofs.own.cease_edit.Statement.{statement}
 use Rattle.edits.proofs.own.cease_edit.Tie as tie
 

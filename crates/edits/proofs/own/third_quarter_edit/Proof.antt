@@ -1,7 +1,7 @@
 -- `edits::own::third_quarter_edit` meets its contract.
 use borrow.Author.Tests.{eq-eqb, ne-eqb}
 use borrow.Author.Needs.{needs}
-use Rattle.edits.specs.Fields.{thirdQuarterTest}
+use Rattle.edits.specs.Tests.{thirdQuarterTest}
 use Rattle.edits.proofs.own.third_quarter_edit.Statement.{statement}
 use Rattle.edits.proofs.own.third_quarter_edit.Tie as tie
 

@@ -4,7 +4,7 @@ use borrow.Author.Needs.{needs}
 use Rattle.edits.specs.declared.Phase.the-variants.{BeforeA, AfterA, EOpen, AfterT, AfterF}
 use Rattle.record.proofs.place.end_edit.Statement.{statement}
 use Rattle.record.proofs.place.end_edit.Tie as tie
-use Rattle.record.specs.Place.{end-parts}
+use Rattle.record.specs.PlaceTables.{end-parts}
 
 returns : tie.Need-returns
 returns c = rw (c .enum-told .given .1) (sym (end-parts BeforeA))

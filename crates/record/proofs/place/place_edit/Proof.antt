@@ -2,7 +2,7 @@
 use mathlib.Core.Path.{sym, _∙_}
 use borrow.Author.Needs.{needs}
 use Rattle.edits.specs.declared.Phase.the-variants.{BeforeA, AfterA, EOpen, AfterT, AfterF}
-use Rattle.record.specs.Place.{place-parts}
+use Rattle.record.specs.PlaceTables.{place-parts}
 use Rattle.record.proofs.place.place_edit.Statement.{statement}
 use Rattle.record.proofs.place.place_edit.Tie as tie
 

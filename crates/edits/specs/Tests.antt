@@ -1,0 +1,80 @@
+-- Follows the code; need not be believed. A field as it is tested: its class test, its own rules, its context, in this order; and the first broken field.
+use Prim.Native.Nat.{ℕ}
+use mathlib.Core.Bool.{Bool}
+use mathlib.Core.List.{List}
+use lib.Dec.{eqb}
+use lib.ListN.{length, getD}
+use Rattle.laws.specs.Choice.{if_then_else_}
+use Rattle.laws.specs.Finding.{Finding, fine, broken, orElse, firstOf, findingIn, Reading, value, refused}
+use Rattle.calendar.specs.Dates.{isDate}
+use Rattle.chars.specs.Columns.{unless}
+use Rattle.number.specs.Numbers.{numberIn, valueIn}
+use Rattle.number.specs.Rules.{yearIn, periodIn, flagIn, feinIn, identityIn}
+use Rattle.text.specs.Text.{entityTest}
+use Rattle.text.specs.Address.{regionIn, stateTest, zipTest, extensionTest}
+use Rattle.field.specs.Classes.{classOf, classTest}
+use Rattle.field.specs.declared.class.Class.{Class}
+use Rattle.field.specs.declared.class.Class.the-variants.{Ignored, RecordLetter, BlankSpace, Numeric, AccountNumber, Flag, ThirdQuarterFlag, Period, RequiredText, OptionalText, PersonName, EntityCode, StateCode, ZipCode, ZipExtension, TaxYear, EmployerFein, IdentityNumber, CeaseDate}
+use Rattle.edits.specs.Edit.{firstBroken}
+use Rattle.edits.specs.Fields.{Around, ruleOf, noRow}
+use Rattle.edits.specs.Own.{isFinal}
+use Rattle.edits.specs.WithContext.{withContext}
+use Rattle.edits.specs.declared.Marks.{Marks}
+use Rattle.edits.specs.declared.Rule.{Rule}
+
+-- What the rules of a date find, given its reading.
+abbrev pub ceaseRules : Bool → ℕ → ℕ → Finding
+ceaseRules final date first =
+    if final
+    then (if eqb date 0 then broken first 51 else unless (isDate date) first 48)
+    else unless (eqb date 0) first 50
+
+abbrev pub ceaseIn : Bool → ℕ → Reading → Finding
+ceaseIn final first (value date) = ceaseRules final date first
+ceaseIn final first (refused column number) = broken column number
+
+unfoldable pub ceaseTest : Marks → List ℕ → ℕ → ℕ → Finding
+ceaseTest marks line first last = ceaseIn (isFinal marks line) first (numberIn line first last)
+
+unfoldable pub thirdQuarterTest : Marks → List ℕ → ℕ → Finding
+thirdQuarterTest marks line first =
+    if eqb (valueIn line (marks .«period_first») (marks .«period_last»)) 9 then findingIn (flagIn line first) else fine
+
+-- The own rules behind the class test, as the readers of the field crates find them.
+abbrev pub ownRest : Marks → List ℕ → Class → List ℕ → ℕ → ℕ → Finding
+ownRest marks code Ignored line first last = fine
+ownRest marks code RecordLetter line first last = fine
+ownRest marks code BlankSpace line first last = fine
+ownRest marks code Numeric line first last = fine
+ownRest marks code AccountNumber line first last = fine
+ownRest marks code Flag line first last = findingIn (flagIn line first)
+ownRest marks code ThirdQuarterFlag line first last = thirdQuarterTest marks line first
+ownRest marks code Period line first last = findingIn (periodIn line first last)
+ownRest marks code RequiredText line first last = fine
+ownRest marks code OptionalText line first last = fine
+ownRest marks code PersonName line first last = fine
+ownRest marks code EntityCode line first last = entityTest code line first
+ownRest marks code StateCode line first last = stateTest (regionIn line first) first
+ownRest marks code ZipCode line first last = zipTest (regionIn line (marks .state)) line first
+ownRest marks code ZipExtension line first last = extensionTest (regionIn line (marks .state)) line first
+ownRest marks code TaxYear line first last = findingIn (yearIn line first last)
+ownRest marks code EmployerFein line first last = findingIn (feinIn line first last)
+ownRest marks code IdentityNumber line first last = findingIn (identityIn line first last)
+ownRest marks code CeaseDate line first last = ceaseTest marks line first last
+
+-- The rules of a field behind its class test: its own, then those of the context.
+unfoldable pub rulesTest : Around → List ℕ → Class → Rule → ℕ → ℕ → Finding
+rulesTest a line class which first last =
+    orElse (ownRest (a .marks) (a .code) class line first last) (firstBroken (withContext which (a .marks) (a .here) (a .seen) line first last))
+
+unfoldable pub fieldTest : Around → List ℕ → Class → Rule → ℕ → ℕ → Finding
+fieldTest a line class which first last = orElse (classTest class line first last) (rulesTest a line class which first last)
+
+-- Field k of a list of rows and rules.
+unfoldable pub fieldAt : Around → List ℕ → List (List ℕ) → List ℕ → ℕ → Finding
+fieldAt a line rows rules k =
+    fieldTest a line (classOf (getD (getD rows k noRow) 0 0)) (ruleOf (getD rules k 0)) (getD (getD rows k noRow) 1 0) (getD (getD rows k noRow) 2 0)
+
+-- "the first broken column of the first broken field"
+unfoldable pub fieldsTest : Around → List ℕ → List (List ℕ) → List ℕ → Finding
+fieldsTest a line rows rules = firstOf (fieldAt a line rows rules) 0 (length rows)
