@@ -24,6 +24,8 @@ REFERENCE_FILES = 2000
 # What examples/c/write_file.c writes, by the letters of its records, and the frames of it.
 WRITTEN = [b"A", b"E", b"S", b"S", b"T", b"E", b"T", b"F"]
 WRITTEN_FRAMES = b"0100BC614E00000002000000000001E26C\n0129B92700000000000000000000000000\n000000000200000002000000000001E26C\n"
+# What wage.h says of the stack: of wage_whole, and of every other export.
+WHOLE_STACK, CALL_STACK = 65536, 4096
 # The classes of fields that are given as texts, and those that no caller gives.
 TEXTS = {"RequiredText", "OptionalText", "PersonName", "StateCode", "ZipCode", "ZipExtension"}
 CONSTANTS = {"RecordLetter", "EntityCode", "BlankSpace"}
@@ -96,6 +98,22 @@ def written_file(write_file, acknowledge):
     print("a file of %d built and written records, accepted" % (len(lines) - 1))
 
 
+def stack(measure):
+    """Every export on a thread that has the stack that wage.h names, and no more; and what each of them needs of it."""
+    done = run(*measure, text=True)
+    check("tests/c/stack.c: %r" % done, done.returncode == 0)
+    needed = {name: int(number) for name, number in (line.split() for line in done.stdout.splitlines())}
+    check("each export is measured", sorted(needed) == exports())
+    for name, number in needed.items():
+        check("%s needs %d bytes of stack, less than wage.h says" % (name, number), number < (WHOLE_STACK if name == "wage_whole" else CALL_STACK))
+    print("bytes of stack: %s" % ", ".join("%s %d" % pair for pair in sorted(needed.items())))
+
+
+def exports():
+    source = "".join(read("crates", "capi", "src", name).decode() for name in sorted(os.listdir(os.path.join(ROOT, "crates", "capi", "src"))))
+    return sorted(re.findall(r'#\[no_mangle\]\s+pub extern "C" fn (\w+)', source))
+
+
 def fields_in_header(text):
     """The header's fields are rows of the list of fields, by number and columns; a text is named as one."""
     rows = read("crates", "layout", "specs", "Fields.antt").decode()
@@ -114,14 +132,13 @@ def header():
     clang = os.path.join(kit, "on", platform.machine(), "toolchain", "bin", "clang")
     strict = ("-Wall", "-Wextra", "-Wpedantic", "-Werror", "-fsyntax-only", "-I" + os.path.dirname(HEADER))
     examples_in_c = [os.path.join(EXAMPLES, "c", name) for name in ("acknowledge.c", "write_file.c")]
-    calls = os.path.join(ROOT, "tests", "c", "calls.c")
+    tests_in_c = [os.path.join(ROOT, "tests", "c", name) for name in ("calls.c", "stack.c")]
     own = ("--target=x86_64-unknown-linux-gnu", "-nostdinc", "-isystem", os.path.join(ROOT, "tools", "headers"))
-    for command in (("cc", "-std=c99", "-x", "c", HEADER), *(("cc", "-std=c11", example) for example in examples_in_c), ("cc", "-std=gnu11", calls),
+    for command in (("cc", "-std=c99", "-x", "c", HEADER), *(("cc", "-std=c11", example) for example in examples_in_c), *(("cc", "-std=gnu11", test) for test in tests_in_c),
                     (clang, *own, "-std=c99", "-x", "c-header", HEADER), (clang, *own, "-std=c++98", "-x", "c++-header", HEADER)):
         done = run(command[0], *strict, *command[1:], text=True)
         check("%s: %s" % (" ".join(command), done.stderr), done.returncode == 0)
-    source = "".join(read("crates", "capi", "src", name).decode() for name in sorted(os.listdir(os.path.join(ROOT, "crates", "capi", "src"))))
-    exported = sorted(re.findall(r'#\[no_mangle\]\s+pub extern "C" fn (\w+)', source))
+    exported = exports()
     check("there are exports", len(exported) == 13)
     fields_in_header(read("include", "wage.h").decode())
     check("wage.h declares them", sorted(re.findall(r"^uint64_t (\w+)\(", read("include", "wage.h").decode(), re.M)) == exported)
@@ -182,6 +199,7 @@ def main():
         stored_script(calls)
         examples(acknowledge)
         written_file(c_programs.program("examples", "c", "write_file.c"), acknowledge)
+        stack(c_programs.program("tests", "c", "stack.c"))
         header()
         readme()
         rust()

@@ -5,6 +5,7 @@ what comes of inputs and outputs that fail: never a false frame.
 It needs the program: `rt check acknowledge` builds it.
 """
 import os
+import shlex
 import shutil
 import socket
 import subprocess
@@ -221,6 +222,23 @@ def program_failures(input_bytes):
     os.close(kept)
 
 
+def many_employees(count):
+    """The example of one employer with so many S records of one cent each, and its frames. They are enough for every way in which a run is taken."""
+    a, e, s, _, t, f, _ = read(os.path.join(EXAMPLES, "accepted-one-employer.txt")).split(b"\n")
+    employee = s[:1] + b"000000000" + s[10:63] + b"%014d" % 1 + s[77:]
+    total = t[:1] + b"%07d" % count + t[8:26] + b"%014d" % count + t[40:]
+    final = f[:1] + b"%010d" % count + f[11:40] + b"%015d" % count + f[55:]
+    frames = b"0100BC614E%08X%016X\n00%08X00000001%016X\n" % (count, count, count, count)
+    return b"\n".join([a, e, *[employee] * count, total, final, b""]), frames
+
+
+def small_stack():
+    """The program has arrays of fixed size, and nothing that grows with the file."""
+    file, frames = many_employees(3000)
+    done = subprocess.run("ulimit -s 1024 && exec %s %s" % tuple(map(shlex.quote, PROGRAM)), shell=True, input=QUARTER.encode() + b"\n" + file, capture_output=True)
+    check("with 1 MiB of stack: %r" % done, done.stdout == frames)
+
+
 def main():
     file = os.path.join(EXAMPLES, "accepted-two-employers.txt")
     frames = read(os.path.join(EXAMPLES, "accepted-two-employers.frames"))
@@ -231,6 +249,7 @@ def main():
     command_failures(file)
     bad_headers(read(file))
     program_failures(QUARTER.encode() + b"\n" + read(file))
+    small_stack()
     print("%d passed, %d failed" % (passed, failed))
     return 1 if failed else 0
 

@@ -24,7 +24,7 @@
 // G all four, and the length of the text and the first column. The number is the one returned; a word of the answer that is not lent is told as 999.
 //
 // What a call is lent stands right before memory that nobody may touch, and behind some that is looked at afterwards. Where a call leaves something that
-// no line would show, the program ends with a message.
+// no line would show, the program ends with a message. The calls are made on a thread that has the stack that wage.h names, and no more.
 #include <stddef.h>
 #include <stdint.h>
 #include <stdio.h>
@@ -32,6 +32,8 @@
 #include <string.h>
 #include <sys/mman.h>
 #include <wage.h>
+
+#include "on_stack.h"
 
 enum { IDS = 40, ENTRIES = 12, LONG_LIST = 65540, LONG_LIST_TOLD_FROM = 65534, MOST_WORDS = 20, MOST_ANSWER = 6, MOST_SLICE = 300, MOST_BUFFER = 500, MOST_VALUES = 40 };
 
@@ -540,19 +542,27 @@ static struct text read_all(void)
     return (struct text){text, length};
 }
 
-int main(void)
+static struct text script;
+
+static void *run_script(void *none)
 {
-    struct text script = read_all();
     const uint8_t *end;
-    make_areas();
-    for (size_t i = WAGE_STATE_WORDS; i < MOST_WORDS; i++) {
-        state[i] = behind_state;
-    }
     while ((end = memchr(script.at, '#', script.length)) != NULL) {
         size_t length = (size_t)(end - script.at);
         command((struct text){script.at, length});
         script = behind(script, length + 1);
     }
+    return none;
+}
+
+int main(void)
+{
+    script = read_all();
+    make_areas();
+    for (size_t i = WAGE_STATE_WORDS; i < MOST_WORDS; i++) {
+        state[i] = behind_state;
+    }
+    on_stack(NULL, WAGE_STACK_BYTES, run_script);
     if (fflush(stdout) != 0 || ferror(stdout)) {
         stop("the answers cannot be written");
     }
