@@ -1,0 +1,60 @@
+#!/usr/bin/env python3
+"""Holds docs/PROVED.md to the public functions of the crates.
+
+Every public function of a library crate has an `ensures` and no `requires`, and stands in the table of docs/PROVED.md that names the law by which no second
+answer fits its promise; the table names no other. The programs have no public function.
+"""
+import glob
+import os
+import re
+import sys
+
+ROOT = os.path.dirname(os.path.dirname(os.path.abspath(__file__)))
+passed = 0
+failed = 0
+
+
+def check(what, holds):
+    global passed, failed
+    if holds:
+        passed += 1
+    else:
+        failed += 1
+        print("FAILED %s" % what)
+
+
+def read(*path):
+    with open(os.path.join(ROOT, *path), encoding="utf-8") as file:
+        return file.read()
+
+
+def public_functions(crate):
+    """Each with the text between its name and its body."""
+    for path in sorted(glob.glob(os.path.join(ROOT, "crates", crate, "src", "**", "*.rt"), recursive=True)):
+        module = os.path.relpath(path, os.path.join(ROOT, "crates", crate, "src"))[:-3].replace(os.sep, "::")
+        source = read(path)
+        for found in re.finditer(r'\bpub (?:extern "C" )?fn (\w+)', source):
+            inside = "" if module in ("lib", "main") else module + "::"
+            yield "%s::%s%s" % (crate, inside, found.group(1)), source[found.end():source.index("\n{", found.end())]
+
+
+def main():
+    listed = re.findall(r"`(\w+(?:::\w+)+)`", re.search(r"\n## That no second answer fits\n(.*?)\n## ", read("docs", "PROVED.md"), re.S).group(1))
+    functions = []
+    for crate in re.findall(r"^(\w+):", read("crates.txt"), re.M):
+        if os.path.exists(os.path.join(ROOT, "crates", crate, "src", "main.rt")):
+            check("%s has no public function" % crate, not list(public_functions(crate)))
+            continue
+        for name, promise in public_functions(crate):
+            functions.append(name)
+            check("%s states its answer" % name, "ensures" in promise)
+            check("%s asks nothing of its caller" % name, "requires" not in promise)
+            check("%s stands in docs/PROVED.md, once" % name, listed.count(name) == 1)
+    for name in listed:
+        check("%s of docs/PROVED.md is a public function" % name, name in functions)
+    print("%d passed, %d failed" % (passed, failed))
+    return 1 if failed else 0
+
+
+if __name__ == "__main__":
+    sys.exit(main())
