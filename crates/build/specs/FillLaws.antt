@@ -16,7 +16,8 @@ use Rattle.chars.specs.CharacterLaws.{capitals-length, capitals-again}
 use Rattle.chars.specs.Columns.{widthOf, everyColumn, unless}
 use Rattle.chars.specs.declared.columns.Allowed.the-variants.{Permitted}
 use Rattle.laws.specs.Text.{bytes}
-use Rattle.field.specs.Classes.{classOf, classTest}
+use Rattle.field.specs.Classes.{classOf}
+use Rattle.field.specs.ClassTests.{classTest}
 use Rattle.field.specs.declared.class.Class.{Class}
 use Rattle.layout.specs.Fields.{classIn, firstIn, lastIn, noRow}
 use Rattle.edits.specs.Edit.{firstBroken}

@@ -4,7 +4,8 @@ use mathlib.Core.Path.{_≡_}
 use mathlib.Core.List.{List}
 use lib.ListN.{getD}
 use Rattle.laws.specs.Finding.{Finding, fine, broken}
-use Rattle.field.specs.Classes.{classOf, classTest}
+use Rattle.field.specs.Classes.{classOf}
+use Rattle.field.specs.ClassTests.{classTest}
 use Rattle.field.specs.declared.class.Class.{Class}
 use Rattle.edits.specs.Fields.{ruleOf, noRow, Around}
 use Rattle.edits.specs.Tests.{rulesTest, fieldTest, fieldAt}

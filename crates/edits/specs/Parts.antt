@@ -13,7 +13,7 @@ use Rattle.number.specs.Numbers.{numberIn, valueOf, valueIn}
 use Rattle.number.specs.NumberLaws.{digits-read}
 use Rattle.number.specs.RuleLaws.{value-says, year-parts, fein-parts, identity-parts}
 use Rattle.text.specs.TextLaws.{required-parts, optional-parts}
-use Rattle.field.specs.Classes.{classTest}
+use Rattle.field.specs.ClassTests.{classTest}
 use Rattle.field.specs.ClassLaws.{class-says}
 use Rattle.field.specs.declared.class.Class.{Class}
 use Rattle.field.specs.declared.class.Class.the-variants.{Ignored, RecordLetter, BlankSpace, Numeric, AccountNumber, Flag, ThirdQuarterFlag, Period, RequiredText, OptionalText, PersonName, EntityCode, StateCode, ZipCode, ZipExtension, TaxYear, EmployerFein, IdentityNumber, CeaseDate}

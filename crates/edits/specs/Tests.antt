@@ -12,7 +12,8 @@ use Rattle.number.specs.Numbers.{numberIn, valueIn}
 use Rattle.number.specs.Rules.{yearIn, periodIn, flagIn, feinIn, identityIn}
 use Rattle.text.specs.Text.{entityTest}
 use Rattle.text.specs.Address.{regionIn, stateTest, zipTest, extensionTest}
-use Rattle.field.specs.Classes.{classOf, classTest}
+use Rattle.field.specs.Classes.{classOf}
+use Rattle.field.specs.ClassTests.{classTest}
 use Rattle.field.specs.declared.class.Class.{Class}
 use Rattle.field.specs.declared.class.Class.the-variants.{Ignored, RecordLetter, BlankSpace, Numeric, AccountNumber, Flag, ThirdQuarterFlag, Period, RequiredText, OptionalText, PersonName, EntityCode, StateCode, ZipCode, ZipExtension, TaxYear, EmployerFein, IdentityNumber, CeaseDate}
 use Rattle.edits.specs.Edit.{firstBroken}

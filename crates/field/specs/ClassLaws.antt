@@ -6,7 +6,7 @@ use Rattle.laws.specs.Finding.{fine, broken, orElse, firstOf}
 use Rattle.chars.specs.Columns.{allowedTest, everyColumn}
 use Rattle.chars.specs.ColumnLaws.{every-says}
 use Rattle.chars.specs.declared.columns.Allowed.{Allowed}
-use Rattle.field.specs.Classes.{leadTest, allowedIn, classTest}
+use Rattle.field.specs.ClassTests.{leadTest, allowedIn, classTest}
 use Rattle.field.specs.declared.class.Class.{Class}
 
 pub class-says : (class : Class) (line : List ℕ) (first last : ℕ)

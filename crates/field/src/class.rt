@@ -5,7 +5,8 @@ use reason::Edit;
 ghost use mathlib.Core.Path.{_≡_};
 ghost use Rattle.reason.specs.Numbers.{findingOf};
 ghost use Rattle.chars.specs.Characters.{capitals};
-ghost use Rattle.field.specs.Classes.{classOf, leadTest, allowedIn, classTest};
+ghost use Rattle.field.specs.Classes.{classOf};
+ghost use Rattle.field.specs.ClassTests.{leadTest, allowedIn, classTest};
 
 // What a field is.
 pub enum Class {

@@ -14,7 +14,7 @@ use Rattle.reason.specs.declared.Edit.the-variants.{Passed}
 use Rattle.chars.specs.Characters.{capitals}
 use Rattle.chars.specs.Columns.{allowedTest}
 use Rattle.chars.specs.ColumnLaws.{column-of}
-use Rattle.field.specs.Classes.{classTest}
+use Rattle.field.specs.ClassTests.{classTest}
 use Rattle.field.specs.ClassLaws.{lead-breaks, lead-leaves}
 use Rattle.edits.specs.Fields.{Around, ruleOf}
 use Rattle.edits.specs.Tests.{fieldAt, fieldsTest}

@@ -2,7 +2,7 @@
 use mathlib.Core.Path.{sym, ap, _∙_}
 use borrow.Author.Needs.{needs}
 use Rattle.reason.specs.Numbers.{findingOf}
-use Rattle.field.specs.Classes.{classTest}
+use Rattle.field.specs.ClassTests.{classTest}
 use Rattle.field.proofs.class.class_edit.Statement.{statement}
 use Rattle.field.proofs.class.class_edit.Tie as tie
 
