@@ -20,8 +20,8 @@ use Rattle.text.specs.Put.{blanks}
 use Rattle.text.specs.Text.{allBlank}
 use Rattle.field.specs.Classes.{class-again}
 use Rattle.field.specs.declared.class.Class.the-variants.{AccountNumber}
-use Rattle.layout.specs.Fields.{row, firstIn, lastIn, fieldsOfE, noRow}
-use Rattle.layout.specs.Rows.{fields-of-E}
+use Rattle.layout.specs.Fields.{row, firstIn, lastIn, noRow}
+use Rattle.layout.specs.Rows.{fields-of-E, account-number-of-E}
 use Rattle.record.specs.Judge.{rowsFor}
 use Rattle.record.specs.Kinds.{kindOf, isKnown}
 use Rattle.record.specs.Letters.{kind-of-E}
@@ -123,8 +123,7 @@ module _ (letter : ℕ) (values texts out : List ℕ) (known : isKnown (kindOf l
 
 -- ---- E: its field 14, columns 173 to 182, is the account number
 pub account-row : getD (rowsFor (kindOf 69)) 14 noRow ≡ row AccountNumber 173 182
-unfolding fieldsOfE
-account-row = ap (λ (kind : Kind). getD (rowsFor kind) 14 noRow) kind-of-E
+account-row = ap (λ (kind : Kind). getD (rowsFor kind) 14 noRow) kind-of-E ∙ account-number-of-E
 
 pub account-in-E : 14 < length (rowsFor (kindOf 69))
 account-in-E = rw (kind-of-E, fields-of-E) (omega arith)

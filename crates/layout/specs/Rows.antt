@@ -13,7 +13,7 @@ use borrow.Author.Tests.{eqb-true, leb-true}
 use Rattle.laws.specs.Choice.{both-hold}
 use Rattle.laws.specs.Lists.{any-default}
 use Rattle.laws.specs.Table.{every, at}
-use Rattle.field.specs.declared.class.Class.the-variants.{RecordLetter, BlankSpace, Numeric, PersonName, EntityCode, TaxYear, EmployerFein, IdentityNumber, Period}
+use Rattle.field.specs.declared.class.Class.the-variants.{RecordLetter, BlankSpace, Numeric, AccountNumber, PersonName, EntityCode, TaxYear, EmployerFein, IdentityNumber, Period}
 use Rattle.layout.specs.Fields.{row, fieldsOfA, fieldsOfE, fieldsOfS, fieldsOfT, fieldsOfF, records, rowsOf, fields, noRow, starts, firstField}
 
 pub five-records : length records ≡ 5
@@ -155,6 +155,10 @@ period-of-A = refl
 pub fein-of-E : getD fieldsOfE 2 noRow ≡ row EmployerFein 6 14
 unfolding fieldsOfE
 fein-of-E = refl
+
+pub account-number-of-E : getD fieldsOfE 14 noRow ≡ row AccountNumber 173 182
+unfolding fieldsOfE
+account-number-of-E = refl
 
 pub identity-of-S : getD fieldsOfS 1 noRow ≡ row IdentityNumber 2 10
 unfolding fieldsOfS
