@@ -1,8 +1,8 @@
-// What stack the exports need. Each is called on a thread whose stack is painted before, and what it has touched is measured; then all of them are called
-// on a thread that has exactly the stack that wage.h names.
+// What stack the exports need. Each is called on a thread that has painted its stack before, and what the call has touched is measured; then all of them are
+// called on a thread that has exactly the stack that wage.h names.
 //
-// It prints a line for each export: its name, and the bytes of stack that a thread used which called it, those of a thread that calls nothing taken off. The
-// exit status is 0 where none is more than wage.h names and every call answers as it should.
+// It prints a line for each export: its name, and the bytes of stack that a call of it used, with those of the C function that makes the call. The exit status
+// is 0 where none is more than wage.h names and every call answers as it should.
 #include <stdint.h>
 #include <stdio.h>
 #include <stdlib.h>
@@ -13,7 +13,7 @@
 #include "on_stack.h"
 
 // Enough S records behind each other for the longest run, in which each of the library's ways to look for an identity number is taken.
-enum { EMPLOYEES = 3000, LINES = EMPLOYEES + 4, LINE = WAGE_RECORD_BYTES + 1, PAINTED = 1 << 20, PAINT = 0xA5 };
+enum { EMPLOYEES = 3000, LINES = EMPLOYEES + 4, LINE = WAGE_RECORD_BYTES + 1, PAINTED = 1 << 20, PAINT = 0xA5, OWN_FRAME = 256 };
 
 static uint8_t file[LINES * LINE];
 static size_t length;
@@ -40,11 +40,6 @@ static uint8_t record[WAGE_RECORD_BYTES];
 static uint64_t values[WAGE_E_FIELDS];
 static uint8_t texts[300];
 static size_t texts_length;
-
-static void *nothing(void *none)
-{
-    return none;
-}
 
 static void *call_open(void *none)
 {
@@ -196,22 +191,29 @@ static void hand_on(void)
 
 // ---- the measurement
 static uint8_t *painted;
+static size_t needed;
+static void *(*measured)(void *);
 
-// How much of its stack a thread uses that runs this function.
-static size_t touched(void *(*function)(void *))
+// Paints what is below its own frame, calls, and looks how deep the paint is gone. So what the thread itself needs, before and after, does not count.
+static void *call_measured(void *none)
 {
-    memset(painted, PAINT, PAINTED);
-    on_stack(painted, PAINTED, function);
-    size_t at = 0;
-    while (at < PAINTED && painted[at] == PAINT) {
+    volatile uint8_t here = 0;
+    size_t depth = (size_t)((uint8_t *)&here - painted), below = depth - OWN_FRAME, at = 0;
+    for (size_t i = 0; i < below; i++) {
+        ((volatile uint8_t *)painted)[i] = PAINT;
+    }
+    measured(NULL);
+    while (at < below && painted[at] == PAINT) {
         at++;
     }
-    return PAINTED - at;
+    needed = depth - at;
+    return none;
 }
 
 static int measure(const char *name, void *(*function)(void *))
 {
-    size_t needed = touched(function) - touched(nothing);
+    measured = function;
+    on_stack(painted, PAINTED, call_measured);
     printf("%s %lu\n", name, (unsigned long)needed);
     return needed < WAGE_STACK_BYTES;
 }
