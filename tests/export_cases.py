@@ -12,6 +12,7 @@ import sys
 import tempfile
 
 import c_programs
+import stack_depth
 from c_programs import ROOT
 from program_answers import EARLIER, QUARTER
 
@@ -107,6 +108,25 @@ def stack(measure):
     for name, number in needed.items():
         check("%s needs %d bytes of stack, less than wage.h says" % (name, number), number < (WHOLE_STACK if name == "wage_whole" else CALL_STACK))
     print("bytes of stack: %s" % ", ".join("%s %d" % pair for pair in sorted(needed.items())))
+    stack_on_every_path()
+
+
+def stack_on_every_path():
+    lines = stack_depth.disassembled(c_programs.library())
+    if not lines:
+        print("LEFT OUT: the stack on every path: objdump of this machine does not read x86-64")
+        return
+    try:
+        found = stack_depth.functions(lines)
+        most = {name: stack_depth.depth(name, found) for name in exports()}
+    except (ValueError, KeyError) as error:
+        check("the machine code tells the stack: %s" % error, False)
+        return
+    for name, number in most.items():
+        check("%s takes at most %d bytes of stack" % (name, number), 0 < number < (WHOLE_STACK if name == "wage_whole" else CALL_STACK))
+    check("of the C library it needs what wage.h says: %r" % stack_depth.outside(found),
+          "of the C library it needs %s." % " and ".join(stack_depth.outside(found)) in read("include", "wage.h").decode())
+    print("at most, on every path: %s" % ", ".join("%s %d" % pair for pair in sorted(most.items())))
 
 
 def exports():
