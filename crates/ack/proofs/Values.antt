@@ -1,9 +1,10 @@
 -- The machine values of what the walks of this crate pass on.
-use Prim.Native.Nat.{ℕ}
+use mathlib.Core.Path.{refl}
+use mir.Syntax.{Tys, tcons, tnil, tyInt}
 use prog.Memory.{up, align}
 use denote.Enum.Laws as EL
 use denote.Struct.Laws as LL
-use Rattle.tables.proofs.Walk.{Val}
+use Rattle.tables.proofs.Walk.{Field, Val, tyBool, w64}
 use Rattle.state.proofs.State.Laws as S′
 use Rattle.ack.specs.declared.Place.{Place}
 use Rattle.ack.specs.declared.Progress.{Progress}
@@ -30,6 +31,30 @@ start-val = LL.val B.the-type B′.the-laws
 abbrev pub turned-val : Turned → Val
 turned-val = LL.val N.the-type N′.the-laws
 
--- where the state lies in a start, behind two tests and a count
-abbrev pub state-at : ℕ
-state-at = up (align S′.mir) 16
+-- the parts of a place, of a start and of what a turn leaves
+abbrev place-parts : Tys
+place-parts = tcons (tyInt w64) (tcons tyBool tnil)
+
+abbrev pub at-in : Field
+at-in = record { parts = place-parts; number = 0; type = tyInt w64; at = 0; stands = refl }
+
+abbrev pub last-in : Field
+last-in = record { parts = place-parts; number = 1; type = tyBool; at = 8; stands = refl }
+
+abbrev start-parts : Tys
+start-parts = tcons tyBool (tcons tyBool (tcons (tyInt w64) (tcons S′.mir tnil)))
+
+abbrev pub opens-in : Field
+opens-in = record { parts = start-parts; number = 0; type = tyBool; at = 0; stands = refl }
+
+abbrev pub walks-in : Field
+walks-in = record { parts = start-parts; number = 1; type = tyBool; at = 1; stands = refl }
+
+abbrev pub skips-in : Field
+skips-in = record { parts = start-parts; number = 2; type = tyInt w64; at = 8; stands = refl }
+
+abbrev pub begun-in : Field
+begun-in = record { parts = start-parts; number = 3; type = S′.mir; at = up (align S′.mir) 16; stands = refl }
+
+abbrev pub progress-in : Field
+progress-in = record { parts = tcons (tyInt w64) (tcons G′.mir tnil); number = 1; type = G′.mir; at = up (align G′.mir) 8; stands = refl }

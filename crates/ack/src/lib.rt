@@ -28,8 +28,8 @@ pub enum Progress {
 
 // What a turn leaves: where the program stands, and how many of the bytes held it took. What it did not take is to stand before the next read.
 pub struct Turned {
-    pub progress: Progress,
     pub taken: usize,
+    pub progress: Progress,
 }
 
 // The last closed quarter that the input begins with: six digits YYYYMM and LF. What is no such header is no quarter, which the opening refuses with 70.
@@ -108,8 +108,8 @@ fn finished(st: State, held: usize) -> Turned
     ensures { λ r. ⌜ r ≡ record { progress = Finished st; taken = held } ⌝ }
 {
     Turned {
-        progress: Progress::Finished(st),
         taken: held,
+        progress: Progress::Finished(st),
     }
 }
 
@@ -118,8 +118,8 @@ fn walking(st: State, at: usize, held: usize) -> Turned
     ensures { λ r. ⌜ r ≡ record { progress = Walking st; taken = min at held } ⌝ }
 {
     Turned {
-        progress: Progress::Walking(st),
         taken: least(at, held),
+        progress: Progress::Walking(st),
     }
 }
 
@@ -205,8 +205,8 @@ pub fn turn(
         return lines_turn(begun.state, bytes, 0, ended, ids, list);
     }
     Turned {
-        progress,
         taken: begun.taken,
+        progress,
     }
 }
 

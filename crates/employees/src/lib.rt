@@ -270,7 +270,7 @@ pub fn behind(a: Answer, bytes: &[u8], at: usize, ids: &mut [u32], list: usize) 
     let run = run_from(a.state, &bytes[at..], taken, ids, list);
     let state = run.state;
     Answer {
-        state,
         reply: Reply::Fine(run.at),
+        state,
     }
 }

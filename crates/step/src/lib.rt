@@ -33,10 +33,10 @@ pub fn taken_in(reply: Reply) -> usize
     }
 }
 
-// What a call hands back: the state for the next call, and the reply.
+// What a call hands back: the reply, and the state for the next call. The state stands last, so that no place behind it is reckoned from its size.
 pub struct Answer {
-    pub state: State,
     pub reply: Reply,
+    pub state: State,
 }
 
 // What a call writes into the lent tables.
@@ -53,8 +53,8 @@ pub enum Change {
 }
 
 pub struct Move {
-    pub answer: Answer,
     pub change: Change,
+    pub answer: Answer,
 }
 
 // 71 and 72: nothing changed.
@@ -62,15 +62,15 @@ fn stays(st: State, reason: Reason) -> Move
     ensures { λ r. ⌜ movedBy r ≡ staysOf (numberOf reason) (walkOf st) ⌝ }
 {
     Move {
+        change: Change::Nothing,
         answer: Answer {
-            state: st,
             reply: Reply::Refused(Refusal {
                 line: 0,
                 column: 0,
                 reason,
             }),
+            state: st,
         },
-        change: Change::Nothing,
     }
 }
 
@@ -81,19 +81,19 @@ fn again(st: State, refusal: Refusal) -> Move
     let reason = refusal.reason;
     if reason::number_of(reason) == 70 {
         return Move {
-            answer: Answer {
-                state: st,
-                reply: Reply::Refused(refusal),
-            },
             change: Change::Nothing,
+            answer: Answer {
+                reply: Reply::Refused(refusal),
+                state: st,
+            },
         };
     }
     Move {
-        answer: Answer {
-            state: st,
-            reply: Reply::Refused(refusal),
-        },
         change: Change::Clear,
+        answer: Answer {
+            reply: Reply::Refused(refusal),
+            state: st,
+        },
     }
 }
 
@@ -108,11 +108,11 @@ fn refuse(st: State, column: u16, reason: Reason) -> Move
         reason,
     };
     Move {
-        answer: Answer {
-            state: state::refused(refusal),
-            reply: Reply::Refused(refusal),
-        },
         change: Change::Clear,
+        answer: Answer {
+            reply: Reply::Refused(refusal),
+            state: state::refused(refusal),
+        },
     }
 }
 
@@ -134,11 +134,11 @@ fn accept(st: State) -> Move
         used: st.used,
     };
     Move {
-        answer: Answer {
-            state,
-            reply: Reply::Fine(0),
-        },
         change: Change::Nothing,
+        answer: Answer {
+            reply: Reply::Fine(0),
+            state,
+        },
     }
 }
 
@@ -174,11 +174,11 @@ pub fn open_move(held: Quarter) -> Move
 {
     if calendar::is_allowed(held) {
         return Move {
-            answer: Answer {
-                state: state::opened(held),
-                reply: Reply::Fine(0),
-            },
             change: Change::Clear,
+            answer: Answer {
+                reply: Reply::Fine(0),
+                state: state::opened(held),
+            },
         };
     }
     let refusal = Refusal {
@@ -187,10 +187,10 @@ pub fn open_move(held: Quarter) -> Move
         reason: Reason::BadQuarter,
     };
     Move {
-        answer: Answer {
-            state: state::refused(refusal),
-            reply: Reply::Refused(refusal),
-        },
         change: Change::Nothing,
+        answer: Answer {
+            reply: Reply::Refused(refusal),
+            state: state::refused(refusal),
+        },
     }
 }

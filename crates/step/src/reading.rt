@@ -48,11 +48,11 @@ fn moves(state: State, taken: usize, change: Change) -> Move
     ensures { λ r. ⌜ movedBy r ≡ record { says = allWell; taken = taken; walk = walkOf state; change = change } ⌝ }
 {
     Move {
-        answer: Answer {
-            state,
-            reply: Reply::Fine(taken),
-        },
         change,
+        answer: Answer {
+            reply: Reply::Fine(taken),
+            state,
+        },
     }
 }
 

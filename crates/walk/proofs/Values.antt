@@ -1,12 +1,13 @@
 -- The machine values of what the walks of this crate pass on.
-use Prim.Native.Nat.{ℕ, zero, _+_}
+use mathlib.Core.Path.{refl}
+use mir.Syntax.{Tys, tcons, tnil}
 use prog.Memory.{up, align, size}
 use denote.Enum.Laws as EL
 use denote.Struct.Laws as LL
 use Rattle.calendar.specs.declared.Quarter.{Quarter}
 use Rattle.calendar.proofs.Quarter as Q
 use Rattle.calendar.proofs.Quarter.Laws as Q′
-use Rattle.tables.proofs.Walk.{Val}
+use Rattle.tables.proofs.Walk.{Field, Val}
 use Rattle.state.specs.declared.State.{State}
 use Rattle.state.proofs.State as S
 use Rattle.state.proofs.State.Laws as S′
@@ -41,10 +42,21 @@ change-val = EL.val C.the-type C′.the-laws
 abbrev pub move-val : Move → Val
 move-val = LL.val Mv.the-type Mv′.the-laws
 
--- where the change lies in a move, behind the answer
-abbrev pub change-at : ℕ
-change-at = up (align C′.mir) (up (align An′.mir) zero + size An′.mir)
+-- the parts of an answer, and of a move
+abbrev answer-parts : Tys
+answer-parts = tcons R′.mir (tcons S′.mir tnil)
 
--- where the reply lies in an answer, behind the state
-abbrev pub reply-at : ℕ
-reply-at = up (align R′.mir) (up (align S′.mir) zero + size S′.mir)
+abbrev pub reply-in : Field
+reply-in = record { parts = answer-parts; number = 0; type = R′.mir; at = 0; stands = refl }
+
+abbrev pub state-in : Field
+state-in = record { parts = answer-parts; number = 1; type = S′.mir; at = up (align S′.mir) (size R′.mir); stands = refl }
+
+abbrev move-parts : Tys
+move-parts = tcons C′.mir (tcons An′.mir tnil)
+
+abbrev pub change-in : Field
+change-in = record { parts = move-parts; number = 0; type = C′.mir; at = 0; stands = refl }
+
+abbrev pub answer-in : Field
+answer-in = record { parts = move-parts; number = 1; type = An′.mir; at = up (align An′.mir) (size C′.mir); stands = refl }

@@ -14,9 +14,9 @@ use Rattle.tables.specs.Room.{tables as tablesOf′}
 use Rattle.tables.specs.declared.Employer.{Employer}
 use Rattle.tables.proofs.Employer as T
 use Rattle.tables.proofs.Walk.{URA, Heap, Atoms, Given, Memory, Routine, Fun, SProp, Item, prop, Env, Tables, Val, Room, Is, Sq, Triple, Places, Ends, gone, kept-slice}
-use Rattle.tables.proofs.Walk.{Exit, finishes, proves, locals, envOf, lets-go, lose, var, inner, sets, resets, receives, relends, tests, whens, Asked, held, made, asks, asks-last, named-as, holding, twice}
+use Rattle.tables.proofs.Walk.{Exit, finishes, proves, locals, envOf, lets-go, lose, var, part, counts, sets, resets, receives, relends, tests, whens, Asked, held, made, asks, asks-last, named-as, holding, twice}
 use Rattle.tables.proofs.Walk.{Nearer, nearer-wf, Turned as TurnedFrom, none, some, fullShare, named, w64, vint, vbool, givenOf, tables, tablesOf, afterTurn, FmC, fmOf, runs, atRet, anyQ}
-use Rattle.tables.proofs.Walk.{_$_, !, by, move, look, store, forget, stop, from, of-opd, and-then, no-more, first, blocks, loops, again, exec, returns, returns-within, whole, sub, agg}
+use Rattle.tables.proofs.Walk.{_$_, !, by, move, look, store, forget, stop, from, of-opd, and-then, no-more, first, blocks, loops, again, exec, returns, returns-within, whole, agg}
 use Rattle.tables.proofs.Walk.{uint-vals, uint-tells, uint-makes, bool-vals, bool-tells, slice-vals, mut-slice-tells, shr-slice-tells, plain, cited}
 use Rattle.state.specs.Walks.{walkOf}
 use Rattle.state.specs.declared.State.{State}
@@ -28,7 +28,7 @@ use Rattle.step.proofs.Answer.Laws as An′
 use Rattle.step.proofs.Reply as R
 use Rattle.step.proofs.Reply.Laws as R′
 use Rattle.walk.specs.RunLaws.{run-within, run-farther}
-use Rattle.walk.proofs.Values.{state-val, reply-val, reply-at}
+use Rattle.walk.proofs.Values.{state-val, reply-val, reply-in, state-in}
 use Rattle.walk.proofs.Called.{lines-at, ends as end-call}
 use Rattle.walk.proofs.lines_at.Symbol.{name as #lines-at, routine as lines-at-routine}
 use Rattle.walk.proofs.lines_at.Met as lines-at-met
@@ -45,7 +45,7 @@ use Rattle.ack.proofs.Place as P
 use Rattle.ack.proofs.Place.Laws as P′
 use Rattle.ack.proofs.Turned as N
 use Rattle.ack.proofs.Turned.Laws as N′
-use Rattle.ack.proofs.Values.{place-val, turned-val}
+use Rattle.ack.proofs.Values.{place-val, turned-val, at-in, last-in}
 use Rattle.ack.proofs.Lent.{Lent, bytes-val, ids-val, list-val, Having, lends-both, both-back}
 use Rattle.ack.proofs.Called.{takes-line, place-behind, finished, walking}
 use Rattle.ack.proofs.takes_line.Symbol.{name as #takes-line, routine as takes-line-routine}
@@ -133,7 +133,7 @@ module _ {M : Type 1} (𝓤 : URA M) (H : Heap 𝓤) (A : Atoms 𝓤) (W : Given
       let x₁ = holding (L .ids) (k .xs) in let x₂ = holding (L .list) (k .ys) in let t = tablesOf′ (k .xs) (k .ys) in
       let typed : (r : Turned) (is : Is N.the-row r (turned-val r ∷ [])) → _ = λ r is. LL.lawful N.the-type N′.the-laws 𝓤 H A W .typed r _ is .0 in
       let place-fields = LL.owed P.the-type P′.the-laws (k .here) _ (k .here-ok) in
-      sets ! (of-opd ! (inner ! 36 refl (sub ! 1 refl (whole !)))) 18 refl (tt, tt) $ whens ! (var ! 18 refl)
+      sets ! (of-opd ! (part ! 36 last-in refl refl)) 18 refl (tt, tt) $ whens ! (var ! 18 refl)
       (λ last.
       relends ! 42 16 14 (room₁ .0) refl refl refl refl refl refl refl refl $ relends ! 40 12 10 (room₂ .0) refl refl refl refl refl refl refl refl $
       lends-both ! tt L (k .xs) (k .ys) (λ ν₁ ν₂ δ₁ δ₂ p₁ p₂.
@@ -143,18 +143,18 @@ module _ {M : Type 1} (𝓤 : URA M) (H : Heap 𝓤) (A : Atoms 𝓤) (W : Given
       let xs′ = ws .1 .0 in let ys′ = ws .1 .1 .0 in let fields = LL.owed An.the-type An′.the-laws a _ a-is in
       receives ! 34 refl (LL.lawful An.the-type An′.the-laws 𝓤 H A W .typed a _ a-is .0) $
       both-back ! tt L (k .xs) (k .ys) δ₁ δ₂ xs′ ys′ p₁ p₂ (λ same₁ same₂.
-      sets ! (of-opd ! (inner ! 48 refl (sub ! 1 refl (whole !)))) 8 refl (tt, record { fits = room₀ .0 }) $
+      sets ! (of-opd ! (counts ! 48 refl refl)) 8 refl (tt, record { fits = room₀ .0 }) $
       asks ! (finished W mem run) known-finished fm ((tt, tt, tt, (a .state, (n, tt)), (state-val (a .state) ∷ [], (vint w64 n ∷ [], tt))), tt) tt
-      0 (made (LL.makes S.the-type S′.the-plain 𝓤 H A (a .state) _ (fields .0)), (made (uint-makes 𝓤 H A W w64 n _ (refl, room₀ .0)), tt)) refl
-      (and-then ! (inner ! 32 {τ = S′.mir} {d = 0} refl (sub ! 0 {τ = S′.mir} {d = 0} refl (whole !))) (and-then ! (var ! 8 refl) (no-more !))) (λ r _ is r-is.
+      0 (made (LL.makes S.the-type S′.the-plain 𝓤 H A (a .state) _ (fields .1 .0)), (made (uint-makes 𝓤 H A W w64 n _ (refl, room₀ .0)), tt)) refl
+      (and-then ! (part ! 32 state-in refl refl) (and-then ! (var ! 8 refl) (no-more !))) (λ r _ is r-is.
       let turned = turned-ends r bytes a (walkOf (k .st)) t (tablesOf′ xs′ ys′) is said in
       receives ! 52 refl (typed r r-is) $ returns-within ! Post refl (look ! 52 refl) $ lets-go ! 6 refl $
       answers r xs′ ys′ r-is (same₁ ∙ k .xs-same) (same₂ ∙ k .ys-same) (turned .0 ∙ sym (loop-ends bytes (k .here) (walkOf (k .st)) t over (is-true (k .here .last) last)) ∙ k .says) (turned .1))))))
       (λ more.
-      sets ! (of-opd ! (inner ! 48 refl (sub ! 1 refl (whole !)))) 6 refl (tt, record { fits = room₀ .0 }) $
+      sets ! (of-opd ! (counts ! 48 refl refl)) 6 refl (tt, record { fits = room₀ .0 }) $
       asks ! (walking W mem run) known-walking fm ((tt, tt, tt, (k .st, (k .here .at, (n, tt))), (state-val (k .st) ∷ [], (vint w64 (k .here .at) ∷ [], (vint w64 n ∷ [], tt)))), tt) tt
       0 (made (LL.makes S.the-type S′.the-plain 𝓤 H A (k .st) _ (k .st-ok)), (made (uint-makes 𝓤 H A W w64 (k .here .at) _ (place-fields .0)), (made (uint-makes 𝓤 H A W w64 n _ (refl, room₀ .0)), tt))) refl
-      (and-then ! (var ! 38 refl) (and-then ! (inner ! 36 refl (sub ! 0 refl (whole !))) (and-then ! (var ! 6 refl) (no-more !)))) (λ r _ is r-is.
+      (and-then ! (var ! 38 refl) (and-then ! (part ! 36 at-in refl refl) (and-then ! (var ! 6 refl) (no-more !)))) (λ r _ is r-is.
       let turned = turned-stays r bytes (k .st) (k .here .at) t is in
       receives ! 52 refl (typed r r-is) $ returns ! (look ! 52 refl) $ lets-go ! 6 refl $
       answers r (k .xs) (k .ys) r-is (k .xs-same) (k .ys-same) (turned .0 ∙ sym (loop-stays bytes (k .here) (walkOf (k .st)) t over (is-false (k .here .last) more)) ∙ k .says) (turned .1)))
@@ -164,7 +164,7 @@ module _ {M : Type 1} (𝓤 : URA M) (H : Heap 𝓤) (A : Atoms 𝓤) (W : Given
   turns k =
       let x₁ = holding (L .ids) (k .xs) in let x₂ = holding (L .list) (k .ys) in let t = tablesOf′ (k .xs) (k .ys) in
       let place-fields = LL.owed P.the-type P′.the-laws (k .here) _ (k .here-ok) in
-      sets ! (of-opd ! (inner ! 48 refl (sub ! 1 refl (whole !)))) 28 refl (tt, record { fits = room₀ .0 }) $
+      sets ! (of-opd ! (counts ! 48 refl refl)) 28 refl (tt, record { fits = room₀ .0 }) $
       asks ! (takes-line W mem run) known-takes fm ((tt, tt, tt, (k .here, (n, tt)), (place-val (k .here) ∷ [], (vint w64 n ∷ [], tt))), tt) tt
       0 (made (LL.makes P.the-type P′.the-plain 𝓤 H A (k .here) _ (k .here-ok)), (made (uint-makes 𝓤 H A W w64 n _ (refl, room₀ .0)), tt)) refl (and-then ! (var ! 36 refl) (and-then ! (var ! 28 refl) (no-more !))) (λ more _ tells _.
       receives ! 30 refl (tt, tt) $ tests ! (var ! 30 refl)
@@ -178,16 +178,16 @@ module _ {M : Type 1} (𝓤 : URA M) (H : Heap 𝓤) (A : Atoms 𝓤) (W : Given
       asks ! (lines-at W mem run) known-lines fm
       (((L .κ₀, (ν₁ ∷ [], (ν₂ ∷ [], tt))), (L .q₀, (fullShare, (fullShare, tt))), tt, (k .st, (L .src, (k .here .at, (named-as x₁ δ₁, (named-as x₂ δ₂, tt))))), (state-val (k .st) ∷ [], (s₀ ∷ [], (vint w64 (k .here .at) ∷ [], (s₁ ∷ [], (s₂ ∷ [], tt)))))), tt) tt
       6 (made (LL.makes S.the-type S′.the-plain 𝓤 H A (k .st) _ (k .st-ok)), (held, (made (uint-makes 𝓤 H A W w64 (k .here .at) _ (place-fields .0)), (held, (held, tt))))) refl
-      (and-then ! (var ! 41 refl) (and-then ! (var ! 51 refl) (and-then ! (inner ! 39 refl (sub ! 0 refl (whole !))) (and-then ! (var ! 27 refl) (and-then ! (var ! 23 refl) (no-more !)))))) (λ r ws said r-is.
+      (and-then ! (var ! 41 refl) (and-then ! (var ! 51 refl) (and-then ! (part ! 39 at-in refl refl) (and-then ! (var ! 27 refl) (and-then ! (var ! 23 refl) (no-more !)))))) (λ r ws said r-is.
       let xs′ = ws .1 .1 .1 .0 in let ys′ = ws .1 .1 .1 .1 .0 in let fields = LL.owed An.the-type An′.the-laws r _ r-is in let o = outOf r (tablesOf′ xs′ ys′) in
       -- [κ₀'s token; ν₁'s; ν₂'s; ids' last; the list's last; the bytes; what ids keep; what the list keeps; _23 at 8; …]
       receives ! 36 refl (LL.lawful An.the-type An′.the-laws 𝓤 H A W .typed r _ r-is .0) $
       move ! (1 ∷ 2 ∷ 3 ∷ 4 ∷ 0 ∷ []) $ both-back ! tt L (k .xs) (k .ys) δ₁ δ₂ xs′ ys′ p₁ p₂ (λ same₁ same₂.
-      resets ! (of-opd ! (inner ! 34 {τ = S′.mir} {d = 0} refl (sub ! 0 {τ = S′.mir} {d = 0} refl (whole !)))) 38 refl (LL.lawful S.the-type S′.the-laws 𝓤 H A W .typed (r .state) _ (fields .0) .0) $
-      resets ! (of-opd ! (inner ! 48 refl (sub ! 1 refl (whole !)))) 28 refl (tt, record { fits = room₀ .0 }) $
+      resets ! (of-opd ! (part ! 34 state-in refl refl)) 38 refl (LL.lawful S.the-type S′.the-laws 𝓤 H A W .typed (r .state) _ (fields .1 .0) .0) $
+      resets ! (of-opd ! (counts ! 48 refl refl)) 28 refl (tt, record { fits = room₀ .0 }) $
       asks-last ! (place-behind W mem run) known-behind fm ((tt, tt, tt, (k .here, (r .reply, (n, tt))), (place-val (k .here) ∷ [], (reply-val (r .reply) ∷ [], (vint w64 n ∷ [], tt)))), tt) (run-within bytes (k .here .at) (walkOf (k .st)) t o lt said)
-      0 (made (LL.makes P.the-type P′.the-plain 𝓤 H A (k .here) _ (k .here-ok)), (made (EL.makes R.the-type R′.the-plain 𝓤 H A (r .reply) _ (fields .1 .0)), (made (uint-makes 𝓤 H A W w64 n _ (refl, room₀ .0)), tt))) refl
-      (and-then ! (var ! 36 refl) (and-then ! (inner ! 34 {τ = R′.mir} {d = reply-at} refl (sub ! 1 {τ = R′.mir} {d = reply-at} refl (whole !))) (and-then ! (var ! 28 refl) (no-more !)))) (λ next _ goes next-is.
+      0 (made (LL.makes P.the-type P′.the-plain 𝓤 H A (k .here) _ (k .here-ok)), (made (EL.makes R.the-type R′.the-plain 𝓤 H A (r .reply) _ (fields .0)), (made (uint-makes 𝓤 H A W w64 n _ (refl, room₀ .0)), tt))) refl
+      (and-then ! (var ! 36 refl) (and-then ! (part ! 34 reply-in refl refl) (and-then ! (var ! 28 refl) (no-more !)))) (λ next _ goes next-is.
       let farther = run-farther bytes (k .here .at) (walkOf (k .st)) t o lt said in
       let above : k .here .at < next .at = rw goes (farther .0) in let inside : next .at ≤ n = rw goes (farther .1) in
       land-last ! (from ! (stop !)) (store ! 36 refl (LL.lawful P.the-type P′.the-laws 𝓤 H A W .typed next _ next-is .0)) $
@@ -198,7 +198,7 @@ module _ {M : Type 1} (𝓤 : URA M) (H : Heap 𝓤) (A : Atoms 𝓤) (W : Given
         xs = xs′;
         ys = ys′;
         here-ok = next-is;
-        st-ok = fields .0;
+        st-ok = fields .1 .0;
         xs-same = same₁ ∙ k .xs-same;
         ys-same = same₂ ∙ k .ys-same;
         says = ap (λ (p : Place). turnFrom bytes p (walkOf (r .state)) (tablesOf′ xs′ ys′)) goes ∙ sym (run-next bytes (k .here) (walkOf (k .st)) t o takes said) ∙ k .says;

@@ -18,16 +18,16 @@ use Rattle.tables.specs.Room.{Tables as Tables′, tables as tablesOf′}
 use Rattle.tables.specs.declared.Employer.{Employer}
 use Rattle.tables.proofs.Employer as E
 use Rattle.tables.proofs.Walk.{URA, Heap, Atoms, Given, Memory, Routine, Fun, SProp, Item, prop, Env, Tables, Val, Room, Is, Sq, Triple, Places, Ends, gone, kept-slice}
-use Rattle.tables.proofs.Walk.{Exit, finishes, proves, locals, envOf, lets-go, lose, var, inner, sets, resets, receives, relends, whens, Asked, held, made, asks, named-as, holding, twice}
+use Rattle.tables.proofs.Walk.{Exit, finishes, proves, locals, envOf, lets-go, lose, var, part, counts, sets, resets, receives, relends, whens, Asked, held, made, asks, named-as, holding, twice}
 use Rattle.tables.proofs.Walk.{none, some, fullShare, named, w64, vint, vbool, givenOf, tables, tablesOf, FmC, fmOf, runs, atRet}
-use Rattle.tables.proofs.Walk.{_$_, !, by, move, look, lit, of-opd, and-then, no-more, returns, returns-within, whole, sub, agg}
+use Rattle.tables.proofs.Walk.{_$_, !, by, move, look, lit, of-opd, and-then, no-more, returns, returns-within, agg}
 use Rattle.tables.proofs.Walk.{uint-makes, bool-vals, bool-tells, bool-makes, slice-vals, mut-slice-tells, shr-slice-tells, plain, cited}
 use Rattle.state.proofs.State as S
 use Rattle.state.proofs.State.Laws as S′
 use Rattle.step.specs.Steps.{Out, openStep}
 use Rattle.step.proofs.Answer as An
 use Rattle.step.proofs.Answer.Laws as An′
-use Rattle.walk.proofs.Values.{quarter-val, state-val}
+use Rattle.walk.proofs.Values.{quarter-val, state-val, state-in}
 use Rattle.walk.proofs.Called.{opens as open-call}
 use Rattle.walk.proofs.open.Symbol.{name as #open, routine as open-routine}
 use Rattle.walk.proofs.open.Met as open-met
@@ -43,7 +43,7 @@ use Rattle.ack.proofs.Start as B
 use Rattle.ack.proofs.Start.Laws as B′
 use Rattle.ack.proofs.Turned as N
 use Rattle.ack.proofs.Turned.Laws as N′
-use Rattle.ack.proofs.Values.{progress-val, start-val, state-at, turned-val}
+use Rattle.ack.proofs.Values.{progress-val, start-val, turned-val, opens-in, walks-in, skips-in, begun-in}
 use Rattle.ack.proofs.Lent.{Lent, bytes-val, ids-val, list-val, Having, lends-both, both-back}
 use Rattle.ack.proofs.Called.{header, start-of, lines-turn}
 use Rattle.ack.proofs.header.Symbol.{name as #header, routine as header-routine}
@@ -121,15 +121,15 @@ module _ {M : Type 1} (𝓤 : URA M) (H : Heap 𝓤) (A : Atoms 𝓤) (W : Given
 
     resting : T (not (b .opens)) → T (not (b .walks)) → Sq W (Began (b .walks)) (runs (𝓣 .C) (𝓣 .Λ) En mirs.t-7 (atRet En Post))
     resting shut rests =
-        let r : Turned = record { progress = progress; taken = b .taken } in let parts = LL.owed B.the-type B′.the-laws b _ b-is in let r-is = LL.owes N.the-type N′.the-laws r (progress-is, (parts .1 .1 .0, tt)) in
+        let r : Turned = record { taken = b .taken; progress = progress } in let parts = LL.owed B.the-type B′.the-laws b _ b-is in let r-is = LL.owes N.the-type N′.the-laws r (parts .1 .1 .0, (progress-is, tt)) in
         let stays = starts-resting ended bytes t (progressOf progress) (startingOf b) starts (is-false (b .opens) shut) (is-false (b .walks) rests) in
-        sets ! (agg ! (and-then ! (var ! 48 refl) (and-then ! (inner ! 38 refl (sub ! 2 refl (whole !))) (no-more !)))) 50 refl (typed r r-is) $
+        sets ! (agg ! (and-then ! (part ! 38 skips-in refl refl) (and-then ! (var ! 48 refl) (no-more !)))) 50 refl (typed r r-is) $
         returns ! (look ! 50 refl) $ lets-go ! 6 refl $ answers r (L .ids .now) (L .list .now) r-is refl refl (stays .0) (stays .1)
 
     going-on : T (not (b .opens)) → Sq W (Began (b .opens)) (runs (𝓣 .C) (𝓣 .Λ) En mirs.t-5 (atRet En Post))
     going-on shut =
         let parts = LL.owed B.the-type B′.the-laws b _ b-is in
-        resets ! (of-opd ! (inner ! 38 refl (sub ! 1 refl (whole !)))) 32 refl (tt, tt) $ whens ! (var ! 32 refl)
+        resets ! (of-opd ! (part ! 38 walks-in refl refl)) 32 refl (tt, tt) $ whens ! (var ! 32 refl)
         (λ walks.
         relends ! 42 12 10 (room₁ .0) refl refl refl refl refl refl refl refl $ relends ! 40 8 6 (room₂ .0) refl refl refl refl refl refl refl refl $
         lends-both ! tt L (L .ids .now) (L .list .now) (λ ν₁ ν₂ δ₁ δ₂ p₁ p₂. move ! (5 ∷ []) $ twice ! u8 (L .κ₀) (L .src) (s₀ ∷ []) $ move ! (6 ∷ 2 ∷ 3 ∷ 0 ∷ 4 ∷ 5 ∷ []) $
@@ -137,7 +137,7 @@ module _ {M : Type 1} (𝓤 : URA M) (H : Heap 𝓤) (A : Atoms 𝓤) (W : Given
         asks ! (lines-turn W mem run) known-lines fm
         (((L .κ₀, (ν₁ ∷ [], (ν₂ ∷ [], tt))), (L .q₀, (fullShare, (fullShare, tt))), tt, (b .state, (L .src, (0, (ended, (named-as (L .ids) δ₁, (named-as (L .list) δ₂, tt)))))), (state-val (b .state) ∷ [], (s₀ ∷ [], (vint w64 0 ∷ [], (vbool ended ∷ [], (s₁ ∷ [], (s₂ ∷ [], tt))))))), tt) tt
         6 (made (LL.makes S.the-type S′.the-plain 𝓤 H A (b .state) _ (parts .1 .1 .1 .0)), (held, (made (uint-makes 𝓤 H A W w64 0 _ (refl, lit< tt)), (made (bool-makes 𝓤 H A W ended _ refl), (held, (held, tt)))))) refl
-        (and-then ! (inner ! 41 {τ = S′.mir} {d = state-at} refl (sub ! 3 {τ = S′.mir} {d = state-at} refl (whole !))) (and-then ! (var ! 49 refl) (and-then ! (lit ! tt) (and-then ! (var ! 47 refl) (and-then ! (var ! 13 refl) (and-then ! (var ! 9 refl) (no-more !))))))) (λ r ws said r-is.
+        (and-then ! (part ! 41 begun-in refl refl) (and-then ! (var ! 49 refl) (and-then ! (lit ! tt) (and-then ! (var ! 47 refl) (and-then ! (var ! 13 refl) (and-then ! (var ! 9 refl) (no-more !))))))) (λ r ws said r-is.
         let xs′ = ws .1 .1 .1 .1 .0 in let ys′ = ws .1 .1 .1 .1 .1 .0 in
         -- [κ₀'s token; ν₁'s; ν₂'s; ids' last; the list's last; the bytes; what ids keep; what the list keeps; _22 at 8; …]
         receives ! 52 refl (typed r r-is) $ move ! (1 ∷ 2 ∷ 3 ∷ 4 ∷ 0 ∷ []) $ both-back ! tt L (L .ids .now) (L .list .now) δ₁ δ₂ xs′ ys′ p₁ p₂ (λ same₁ same₂.
@@ -164,8 +164,8 @@ module _ {M : Type 1} (𝓤 : URA M) (H : Heap 𝓤) (A : Atoms 𝓤) (W : Given
         lends-both ! tt L xs ys (λ ν₃ ν₄ δ₃ δ₄ p₃ p₄. move ! (5 ∷ []) $ twice ! u8 (L .κ₀) (L .src) (s₀ ∷ []) $ move ! (6 ∷ 2 ∷ 3 ∷ 0 ∷ 4 ∷ 5 ∷ []) $
         asks ! (lines-turn W mem run) known-lines fm
         (((L .κ₀, (ν₃ ∷ [], (ν₄ ∷ [], tt))), (L .q₀, (fullShare, (fullShare, tt))), tt, (o .state, (L .src, (7, (ended, (named-as (holding (L .ids) xs) δ₃, (named-as (holding (L .list) ys) δ₄, tt)))))), (state-val (o .state) ∷ [], (s₀ ∷ [], (vint w64 7 ∷ [], (vbool ended ∷ [], (s₁ ∷ [], (s₂ ∷ [], tt))))))), tt) tt
-        6 (made (LL.makes S.the-type S′.the-plain 𝓤 H A (o .state) _ (fields .0)), (held, (made (uint-makes 𝓤 H A W w64 7 _ (refl, lit< tt)), (made (bool-makes 𝓤 H A W ended _ refl), (held, (held, tt)))))) refl
-        (and-then ! (inner ! 39 {τ = S′.mir} {d = 0} refl (sub ! 0 {τ = S′.mir} {d = 0} refl (whole !))) (and-then ! (var ! 49 refl) (and-then ! (lit ! tt) (and-then ! (var ! 47 refl) (and-then ! (var ! 21 refl) (and-then ! (var ! 17 refl) (no-more !))))))) (λ r ws said r-is.
+        6 (made (LL.makes S.the-type S′.the-plain 𝓤 H A (o .state) _ (fields .1 .0)), (held, (made (uint-makes 𝓤 H A W w64 7 _ (refl, lit< tt)), (made (bool-makes 𝓤 H A W ended _ refl), (held, (held, tt)))))) refl
+        (and-then ! (part ! 39 state-in refl refl) (and-then ! (var ! 49 refl) (and-then ! (lit ! tt) (and-then ! (var ! 47 refl) (and-then ! (var ! 21 refl) (and-then ! (var ! 17 refl) (no-more !))))))) (λ r ws said r-is.
         let xs′ = ws .1 .1 .1 .1 .0 in let ys′ = ws .1 .1 .1 .1 .1 .0 in
         receives ! 52 refl (typed r r-is) $ move ! (1 ∷ 2 ∷ 3 ∷ 4 ∷ 0 ∷ []) $ both-back ! tt L xs ys δ₃ δ₄ xs′ ys′ p₃ p₄ (λ same₃ same₄.
         returns-within ! Post refl (look ! 50 refl) $ lets-go ! 6 refl $ answers r xs′ ys′ r-is (same₃ ∙ same₁) (same₄ ∙ same₂)
@@ -174,11 +174,11 @@ module _ {M : Type 1} (𝓤 : URA M) (H : Heap 𝓤) (A : Atoms 𝓤) (W : Given
 
   walk : Sq W (Holding []) (runs (𝓣 .C) (𝓣 .Λ) En (code.function .body) (atRet En Post))
   walk =
-      sets ! (of-opd ! (inner ! 46 refl (sub ! 1 refl (whole !)))) 34 refl (tt, record { fits = room₀ .0 }) $
+      sets ! (of-opd ! (counts ! 46 refl refl)) 34 refl (tt, record { fits = room₀ .0 }) $
       asks ! (start-of W mem run) known-start fm ((tt, tt, tt, (progress, (ended, (n, tt))), (progress-val progress ∷ [], (vbool ended ∷ [], (vint w64 n ∷ [], tt)))), tt) tt
       0 (made (EL.makes G.the-type G′.the-plain 𝓤 H A progress _ progress-is), (made (bool-makes 𝓤 H A W ended _ refl), (made (uint-makes 𝓤 H A W w64 n _ (refl, room₀ .0)), tt))) refl
       (and-then ! (var ! 48 refl) (and-then ! (var ! 44 refl) (and-then ! (var ! 34 refl) (no-more !)))) (λ b _ starts b-is.
-      receives ! 38 refl (LL.lawful B.the-type B′.the-laws 𝓤 H A W .typed b _ b-is .0) $ sets ! (of-opd ! (inner ! 38 refl (sub ! 0 refl (whole !)))) 32 refl (tt, tt) $
+      receives ! 38 refl (LL.lawful B.the-type B′.the-laws 𝓤 H A W .typed b _ b-is .0) $ sets ! (of-opd ! (part ! 38 opens-in refl refl)) 32 refl (tt, tt) $
       opening b b-is starts)
 
 pub turn-spec : {M : Type 1} → stated.statement M

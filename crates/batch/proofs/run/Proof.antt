@@ -6,16 +6,16 @@ use mathlib.Core.List.{[], _∷_, List}
 use mathlib.Core.Option.{Option}
 use lib.Dec.{ltb→lt}
 use lib.ListN.{length}
-use mir.Syntax.{Body, tyInt}
+use mir.Syntax.{Body, Tys, tcons, tnil, tyInt}
 use types.Run.{land-last}
 use denote.Builtin.{u8, u32}
 use denote.Enum.Laws as EL
 use denote.Struct.Laws as LL
 use Rattle.tables.proofs.Employer as T
 use Rattle.tables.proofs.Walk.{URA, Heap, Atoms, Given, Memory, Routine, Fun, SProp, Item, Env, Tables, Val, Room, Is, Sq, Triple, Places, Ends, kept-slice}
-use Rattle.tables.proofs.Walk.{Exit, finishes, proves, locals, envOf, lets-go, var, inner, sets, receives, relends, relends-front, tests, Asked, held, made, asks, asks-last, unsaid, named-as, holding}
-use Rattle.tables.proofs.Walk.{Nearer, nearer-wf, Turned, none, some, fullShare, named, w64, tyBool, vunit, givenOf, tables, tablesOf, afterTurn, FmC, fmOf, runs, atRet, anyQ}
-use Rattle.tables.proofs.Walk.{_$_, !, by, look, store, forget, stop, from, lit, unit-lit, of-opd, bin, and-then, no-more, first, blocks, loops, again, exec, returns, whole, sub}
+use Rattle.tables.proofs.Walk.{Exit, finishes, proves, locals, envOf, lets-go, var, part, sets, receives, relends, relends-front, tests, Asked, held, made, asks, asks-last, unsaid, named-as, holding}
+use Rattle.tables.proofs.Walk.{Field, Nearer, nearer-wf, Turned, none, some, fullShare, named, w64, tyBool, vunit, givenOf, tables, tablesOf, afterTurn, FmC, fmOf, runs, atRet, anyQ}
+use Rattle.tables.proofs.Walk.{_$_, !, by, look, store, forget, stop, from, lit, unit-lit, of-opd, bin, and-then, no-more, first, blocks, loops, again, exec, returns}
 use Rattle.tables.proofs.Walk.{nothing-makes, slice-vals, mut-slice-tells, plain, cited}
 use Rattle.state.proofs.State as S
 use Rattle.state.proofs.State.Laws as S′
@@ -33,7 +33,7 @@ use Rattle.ack.proofs.Called.{turn}
 use Rattle.ack.proofs.turn.Symbol.{name as #turn, routine as turn-routine}
 use Rattle.ack.proofs.turn.Met as turn-met
 use Rattle.ack.specs.declared.Turned.{Turned as Turned′}
-use Rattle.ack.proofs.Values.{progress-val, turned-val}
+use Rattle.ack.proofs.Values.{progress-val, turned-val, progress-in}
 use Rattle.batch.specs.declared.Between.{Between}
 use Rattle.batch.specs.declared.Held.{Held}
 use Rattle.batch.proofs.Between as B
@@ -64,6 +64,25 @@ between-val = LL.val B.the-type B′.the-laws
 
 abbrev held-val : Held → Val
 held-val = LL.val R.the-type R′.the-laws
+
+-- their parts
+abbrev between-parts : Tys
+between-parts = tcons (tyInt w64) (tcons (tyInt w64) (tcons (tyInt w64) (tcons (tyInt w64) (tcons P′.mir tnil))))
+
+abbrev turns-in : Field
+turns-in = record { parts = between-parts; number = 1; type = tyInt w64; at = 8; stands = refl }
+
+abbrev standing-in : Field
+standing-in = record { parts = between-parts; number = 4; type = P′.mir; at = 32; stands = refl }
+
+abbrev held-parts : Tys
+held-parts = tcons (tyInt w64) (tcons (tyInt w64) (tcons tyBool (tcons tyBool tnil)))
+
+abbrev bytes-in : Field
+bytes-in = record { parts = held-parts; number = 0; type = tyInt w64; at = 0; stands = refl }
+
+abbrev ended-in : Field
+ended-in = record { parts = held-parts; number = 2; type = tyBool; at = 16; stands = refl }
 
 module _ {M : Type 1} (𝓤 : URA M) (H : Heap 𝓤) (A : Atoms 𝓤) (W : Given 𝓤 H A) (mem : Memory → SProp 𝓤) (run : Routine → Fun 𝓤) (𝓣 : Tables 𝓤 H) (known-start : Triple 𝓤 (𝓣 .C #start) (Asked (start W mem run)))
     (known-read : Triple 𝓤 (𝓣 .C #read-more) (Asked (read-more W mem run))) (known-turn : Triple 𝓤 (𝓣 .C #turn) (Asked (turn W mem run))) (known-state : Triple 𝓤 (𝓣 .C #state-of) (Asked (state-of W mem run)))
@@ -152,7 +171,7 @@ module _ {M : Type 1} (𝓤 : URA M) (H : Heap 𝓤) (A : Atoms 𝓤) (W : Given
   framed : (k₀ k : Far) → Fewer k₀ (k .at .turns) → (h : Held) → Is R.the-row h (held-val h ∷ []) → (u : Turned′) → Is U.the-row u (turned-val u ∷ []) → Turn k₀ (behind 12 mirs.turn-1) (AtWith k (some (held-val h) ∷ some (turned-val u) ∷ []))
   framed k₀ k fewer h h-is u u-is =
       asks ! (state-of W mem run) known-state fm ((tt, tt, tt, (u .progress, tt), (progress-val (u .progress) ∷ [], tt)), tt) tt
-      0 (made (EL.makes P.the-type P′.the-plain 𝓤 H A (u .progress) _ (LL.owed U.the-type U′.the-laws u _ u-is .0)), tt) refl (and-then ! (inner ! 46 {τ = P′.mir} {d = 0} refl (sub ! 0 {τ = P′.mir} {d = 0} refl (whole !))) (no-more !)) (λ st _ _ st-is.
+      0 (made (EL.makes P.the-type P′.the-plain 𝓤 H A (u .progress) _ (LL.owed U.the-type U′.the-laws u _ u-is .1 .0)), tt) refl (and-then ! (part ! 46 progress-in refl refl) (no-more !)) (λ st _ _ st-is.
       receives ! 24 refl (LL.lawful S.the-type S′.the-laws 𝓤 H A W .typed st _ st-is .0) $
       relends ! 54 22 20 (room₂ .0) refl refl refl refl refl refl refl refl $ relends ! 52 18 16 (room₃ .0) refl refl refl refl refl refl refl refl $
       calls-frames mem run fm L (k .lists) ! known-frames st st-is (λ ν₂ ν₃ δ₂ δ₃. and-then ! (var ! 26 refl) (and-then ! (var ! 22 refl) (and-then ! (var ! 18 refl) (no-more !)))) (λ fr fr-is l.
@@ -162,10 +181,10 @@ module _ {M : Type 1} (𝓤 : URA M) (H : Heap 𝓤) (A : Atoms 𝓤) (W : Given
   -- the turn on the bytes held, and what comes after
   turned : (k₀ k : Far) → Fewer k₀ (k .at .turns) → (h : Held) → Is R.the-row h (held-val h ∷ []) → h .bytes ≤ length (k .lists .bs) → Turn k₀ (behind 5 mirs.turn-1) (AtWith k (some (held-val h) ∷ []))
   turned k₀ k fewer h h-is within =
-      relends-front ! 58 36 34 (LL.owed R.the-type R′.the-laws h _ h-is .0 .1) refl refl refl refl refl (inner ! 48 {τ = tyInt w64} {d = 0} refl (sub ! 0 {τ = tyInt w64} {d = 0} refl (whole !))) refl refl $
+      relends-front ! 58 36 34 (LL.owed R.the-type R′.the-laws h _ h-is .0 .1) refl refl refl refl refl (part ! 48 bytes-in refl refl) refl refl $
       relends ! 56 32 30 (room₁ .0) refl refl refl refl refl refl refl refl $ relends ! 54 28 26 (room₂ .0) refl refl refl refl refl refl refl refl $
       calls-turn mem run fm L (k .lists) ! known-turn (k .at .progress) (LL.owed B.the-type B′.the-laws (k .at) _ (k .at-ok) .1 .1 .1 .1 .0) (h .bytes) within (h .ended)
-      (λ ν₀ ν₁ ν₂ γ δ₁ δ₂. and-then ! (inner ! 53 {τ = P′.mir} {d = 32} refl (sub ! 4 {τ = P′.mir} {d = 32} refl (whole !))) (and-then ! (var ! 37 refl) (and-then ! (inner ! 51 {τ = tyBool} {d = 16} refl (sub ! 2 {τ = tyBool} {d = 16} refl (whole !))) (and-then ! (var ! 33 refl) (and-then ! (var ! 29 refl) (no-more !))))))
+      (λ ν₀ ν₁ ν₂ γ δ₁ δ₂. and-then ! (part ! 53 standing-in refl refl) (and-then ! (var ! 37 refl) (and-then ! (part ! 51 ended-in refl refl) (and-then ! (var ! 33 refl) (and-then ! (var ! 29 refl) (no-more !))))))
       (λ u u-is l.
       receives ! 46 refl (LL.lawful U.the-type U′.the-laws 𝓤 H A W .typed u _ u-is .0) $ forget ! 26 refl $ forget ! 28 refl $ forget ! 30 refl $ forget ! 32 refl $ forget ! 34 refl $ forget ! 36 refl $
       framed k₀ (with k l) fewer h h-is u u-is)
@@ -174,7 +193,7 @@ module _ {M : Type 1} (𝓤 : URA M) (H : Heap 𝓤) (A : Atoms 𝓤) (W : Given
   unfolding afterTurn
   turns k =
       let l = k .lists in
-      sets ! (bin ! (lit ! tt) (inner ! 50 {τ = tyInt w64} {d = 8} refl (sub ! 1 {τ = tyInt w64} {d = 8} refl (whole !))) tt) 42 refl (tt, tt) $ tests ! (var ! 42 refl)
+      sets ! (bin ! (lit ! tt) (part ! 50 turns-in refl refl) tt) 42 refl (tt, tt) $ tests ! (var ! 42 refl)
       (λ less.
       relends ! 58 40 38 (room₀ .0) refl refl refl refl refl refl refl refl $ lends-read ! tt L l (λ ν δ p.
       -- [a token; the buffer; what is left, of seven; _26 at 9; …]

@@ -14,9 +14,9 @@ use Rattle.tables.specs.Room.{tables as tablesOf′}
 use Rattle.tables.specs.declared.Employer.{Employer}
 use Rattle.tables.proofs.Employer as T
 use Rattle.tables.proofs.Walk.{URA, Heap, Atoms, Given, Memory, Routine, Fun, SProp, Lft, Share, Env, Tables, Val, RefT, Room, Sq, Triple, Places, Ends, gone, given-slice}
-use Rattle.tables.proofs.Walk.{Exit, finishes, proves, locals, envOf, lets-go, lose, var, inner, sets, receives, relends, whens, Asked, held, made, asks}
+use Rattle.tables.proofs.Walk.{Exit, finishes, proves, locals, envOf, lets-go, lose, var, counts, sets, receives, relends, whens, Asked, held, made, asks}
 use Rattle.tables.proofs.Walk.{measures, none, some, named, w64, vint, flft, givenOf, tables, tablesOf, FmC, fmOf, runs, atRet}
-use Rattle.tables.proofs.Walk.{‵, _$_, !, by, move, look, lit, of-opd, bin, and-then, no-more, returns, returns-within, whole, sub, uint-vals, uint-tells, uint-makes, slice-vals, MutSlice, ShrSlice, mut-slice-tells, shr-slice-tells, plain, cited}
+use Rattle.tables.proofs.Walk.{‵, _$_, !, by, move, look, lit, of-opd, bin, and-then, no-more, returns, returns-within, uint-vals, uint-tells, uint-makes, slice-vals, MutSlice, ShrSlice, mut-slice-tells, shr-slice-tells, plain, cited}
 use Rattle.step.specs.Steps.{Out}
 use Rattle.step.proofs.Answer as An
 use Rattle.step.proofs.Answer.Laws as An′
@@ -73,7 +73,7 @@ module _ {M : Type 1} (𝓤 : URA M) (H : Heap 𝓤) (A : Atoms 𝓤) (W : Given
   walk : Sq W (‵ (flft κ₀ q₀) ∷ ‵ (flft κ₁ q₁) ∷ ‵ (flft κ₂ q₂) ∷ ‵ (flft κ₃ q₃) ∷ ‵ (flft κ₄ q₄) ∷ ‵ (ShrSlice (named 0) κ₀ u8 .own src (valOf src ∷ [])) ∷ ‵ (MutSlice (named 0) κ₁ u64 .own state (valOf state ∷ [])) ∷ ‵ (MutSlice (named 0) κ₂ u64 .own answer (valOf answer ∷ []))
       ∷ ‵ (MutSlice (named 0) κ₃ u32 .own ids (valOf ids ∷ [])) ∷ ‵ (MutSlice (named 0) κ₄ T.the-row .own list (valOf list ∷ [])) ∷ locals En (none ∷ some (vint w64 year) ∷ some (vint w64 month) ∷ some (valOf src) ∷ some (valOf state) ∷ some (valOf answer) ∷ some (valOf ids) ∷ some (valOf list) ∷ []) []) (runs (𝓣 .C) (𝓣 .Λ) En (code.function .body) (atRet En Post))
   walk =
-      sets ! (of-opd ! (inner ! 44 refl (sub ! 1 refl (whole !)))) 34 refl (tt, record { fits = room₁ .0 }) $ sets ! (bin ! (var ! 34 refl) (lit ! tt) tt) 32 refl (tt, tt) $ whens ! (var ! 32 refl)
+      sets ! (of-opd ! (counts ! 44 refl refl)) 34 refl (tt, record { fits = room₁ .0 }) $ sets ! (bin ! (var ! 34 refl) (lit ! tt) tt) 32 refl (tt, tt) $ whens ! (var ! 32 refl)
       (λ few.
       relends ! 42 30 28 (room₂ .0) refl refl refl refl refl refl refl refl $ move ! (2 ∷ 7 ∷ []) $
       asks ! (tell-no-place W mem run) known-none fm (((κ₂, tt), (q₂, tt), tt, (answer, tt), (valOf answer ∷ [], tt)), tt) tt 2 (held, tt) refl (and-then ! (var ! 28 refl) (no-more !)) (λ r ws told r-is.

@@ -10,9 +10,9 @@ use Rattle.tables.specs.declared.Employer.{Employer}
 use Rattle.tables.proofs.Employer as T
 use Rattle.tables.proofs.Entries.{sliceOf, Shared}
 use Rattle.tables.proofs.Walk.{URA, Heap, Atoms, Given, Memory, Routine, Fun, SProp, Lft, Share, Env, Tables, Val, RefT, Room, Is, Sq, Triple, Places, Ends, gone, given-slice}
-use Rattle.tables.proofs.Walk.{Exit, finishes, proves, locals, envOf, lets-go, lose, var, inner, sets, resets, receives, relends, Asked, held, made, asks, named-as, holding}
+use Rattle.tables.proofs.Walk.{Exit, finishes, proves, locals, envOf, lets-go, lose, var, counts, sets, resets, receives, relends, Asked, held, made, asks, named-as, holding}
 use Rattle.tables.proofs.Walk.{lends-again, comes-back, measures, none, some, fullShare, named, w64, vint, flft, givenOf, tables, tablesOf, FmC, fmOf, runs, atRet, ‵, _$_, !, by, move}
-use Rattle.tables.proofs.Walk.{look, of-opd, and-then, no-more, returns, whole, sub, uint-makes, sliceVal, slice-vals, MutSlice, mut-slice-tells, shr-slice-tells, plain, cited}
+use Rattle.tables.proofs.Walk.{look, of-opd, and-then, no-more, returns, uint-makes, sliceVal, slice-vals, MutSlice, mut-slice-tells, shr-slice-tells, plain, cited}
 use Rattle.state.specs.Walks.{Walk, walkOf}
 use Rattle.state.specs.declared.State.{State}
 use Rattle.state.proofs.State as S
@@ -70,7 +70,7 @@ module _ {M : Type 1} (𝓤 : URA M) (H : Heap 𝓤) (A : Atoms 𝓤) (W : Given
   walk =
       let many = length (list .now) in
       let size = length (out .now) in
-      sets ! (of-opd ! (inner ! 22 refl (sub ! 1 refl (whole !)))) 16 refl (tt, record { fits = room₀ .0 }) $ sets ! (of-opd ! (inner ! 20 refl (sub ! 1 refl (whole !)))) 14 refl (tt, record { fits = room₁ .0 }) $
+      sets ! (of-opd ! (counts ! 22 refl refl)) 16 refl (tt, record { fits = room₀ .0 }) $ sets ! (of-opd ! (counts ! 20 refl refl)) 14 refl (tt, record { fits = room₁ .0 }) $
       asks ! (employers-framed W mem run) known-framed fm ((tt, tt, tt, (st, (many, (size, tt))), (sval ∷ [], (vint w64 many ∷ [], (vint w64 size ∷ [], tt)))), tt) tt
       0 (made (LL.makes S.the-type S′.the-plain 𝓤 H A st _ st-is), (made (uint-makes 𝓤 H A W w64 many _ (refl, room₀ .0)), (made (uint-makes 𝓤 H A W w64 size _ (refl, room₁ .0)), tt))) refl
       (and-then ! (var ! 24 refl) (and-then ! (var ! 16 refl) (and-then ! (var ! 14 refl) (no-more !)))) (λ n _ is-n n-is.
@@ -84,7 +84,7 @@ module _ {M : Type 1} (𝓤 : URA M) (H : Heap 𝓤) (A : Atoms 𝓤) (W : Given
       -- [ν's token; κ₀'s; the buffer's last bytes; what is kept; _11 at 4; …]
       receives ! 12 refl (tt, tt) $ move ! (0 ∷ 2 ∷ 3 ∷ []) $ comes-back ! tt u8 out (s ∷ []) δ (zs .0) p (λ same₁ _.
       -- [κ₁'s token; the buffer; κ₀'s; _11 at 3; …]
-      resets ! (of-opd ! (inner ! 21 refl (sub ! 1 refl (whole !)))) 15 refl (tt, record { fits = room₀ .0 }) $ relends ! 19 5 3 (room₁ .0) refl refl refl refl refl refl refl refl $
+      resets ! (of-opd ! (counts ! 21 refl refl)) 15 refl (tt, record { fits = room₀ .0 }) $ relends ! 19 5 3 (room₁ .0) refl refl refl refl refl refl refl refl $
       asks ! (last-frame W mem run) known-last fm (((κ₁, tt), (q₁, tt), tt, (st, (many, (holding out (zs .0), tt))), (sval ∷ [], (vint w64 many ∷ [], (s ∷ [], tt)))), tt) tt
       2 (made (LL.makes S.the-type S′.the-plain 𝓤 H A st _ st-is), (made (uint-makes 𝓤 H A W w64 many _ (refl, room₀ .0)), (held, tt))) refl
       (and-then ! (var ! 23 refl) (and-then ! (var ! 15 refl) (and-then ! (var ! 3 refl) (no-more !)))) (λ r ws said r-is.

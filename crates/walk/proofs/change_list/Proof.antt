@@ -11,9 +11,9 @@ use Rattle.tables.proofs.Employer as T
 use Rattle.tables.proofs.Employer.Laws as T′
 use Rattle.tables.proofs.Called.{opened-entry, closed-entry, put, entry-at, zero-first}
 use Rattle.tables.proofs.Walk.{URA, Heap, Atoms, Given, Memory, Routine, Fun, SProp, Lft, Share, Env, Tables, Val, RefT, Room, Is, Sq, Triple, Places, Ends, gone, given-slice}
-use Rattle.tables.proofs.Walk.{Exit, finishes, proves, locals, envOf, lets-go, lose, var, inner, sets, receives, replaces, relends, Asked, held, made, asks, holding, named-as}
+use Rattle.tables.proofs.Walk.{Exit, finishes, proves, locals, envOf, lets-go, lose, var, part, word, counts, sets, receives, replaces, relends, Asked, held, made, asks, holding, named-as}
 use Rattle.tables.proofs.Walk.{lends-shared, shared-back, lends-again, comes-back, measures, none, some, fullShare, named, w64, vunit, vint, flft, givenOf, tables, tablesOf, FmC, fmOf, runs, atRet}
-use Rattle.tables.proofs.Walk.{‵, _$_, !, by, look, unit-lit, of-opd, and-then, no-more, returns, whole, sub, uint-makes, nothing-makes, sliceVal, slice-vals, MutSlice, mut-slice-tells, plain, cited}
+use Rattle.tables.proofs.Walk.{‵, _$_, !, by, look, unit-lit, of-opd, and-then, no-more, returns, uint-makes, nothing-makes, sliceVal, slice-vals, MutSlice, mut-slice-tells, plain, cited}
 use Rattle.tables.proofs.list.opened_entry.Symbol.{name as #opened-entry, routine as opened-entry-routine}
 use Rattle.tables.proofs.list.opened_entry.Met as opened-entry-met
 use Rattle.tables.proofs.list.closed_entry.Symbol.{name as #closed-entry, routine as closed-entry-routine}
@@ -77,7 +77,7 @@ module _ {M : Type 1} (𝓤 : URA M) (H : Heap 𝓤) (A : Atoms 𝓤) (W : Given
   -- [the token; the list; _15 at 2; _14 at 4; _13 at 6; _12 at 8; _11 at 10; _10 at 12; _9 at 14; _8 at 16; _7 at 18; _6 at 20; _5 at 22; _4 at 24; _3 at 26; _2 at 28; _1 at 30; _0 at 32]
   walk : Sq W (‵ (flft κ q) ∷ ‵ (MutSlice (named 0) κ T.the-row .own x (s ∷ [])) ∷ locals En (none ∷ some s ∷ some (change-val change) ∷ []) []) (runs (𝓣 .C) (𝓣 .Λ) En (code.function .body) (atRet En Post))
   walk =
-      sets ! (of-opd ! (inner ! 30 refl (sub ! 1 refl (whole !)))) 22 refl (tt, record { fits = room .0 }) $
+      sets ! (of-opd ! (counts ! 30 refl refl)) 22 refl (tt, record { fits = room .0 }) $
       asks ! (writes-of W mem run) known-writes fm ((tt, tt, tt, (change, (length ys, tt)), (change-val change ∷ [], (vint w64 (length ys) ∷ [], tt))), tt) tt
       0 (made (EL.makes C.the-type C′.the-plain 𝓤 H A change _ change-is), (made (uint-makes 𝓤 H A W w64 (length ys) _ (refl, room .0)), tt)) refl (and-then ! (var ! 28 refl) (and-then ! (var ! 22 refl) (no-more !))) (λ w _ all w-is.
       let fields = LL.owed P.the-type P′.the-laws w _ w-is in
@@ -85,31 +85,31 @@ module _ {M : Type 1} (𝓤 : URA M) (H : Heap 𝓤) (A : Atoms 𝓤) (W : Given
       lends-again ! tt T.the-row x (s ∷ []) (λ p ν δ.
       -- [ν's token; the list; what is kept; _15 at 3; …]
       asks ! (zero-first W mem run) known-zero fm (((ν ∷ [], tt), (fullShare, tt), tt, (named-as x δ, (w .zeroed, tt)), (s ∷ [], (vint w64 (w .zeroed) ∷ [], tt))), tt) tt
-      2 (held, (made (uint-makes 𝓤 H A W w64 (w .zeroed) _ (fields .0)), tt)) refl (and-then ! (var ! 17 refl) (and-then ! (inner ! 27 refl (sub ! 0 refl (whole !))) (no-more !))) (λ _ zs zeroed _.
+      2 (held, (made (uint-makes 𝓤 H A W w64 (w .zeroed) _ (fields .0)), tt)) refl (and-then ! (var ! 17 refl) (and-then ! (part ! 27 (word 6 0 refl) refl refl) (no-more !))) (λ _ zs zeroed _.
       receives ! 21 refl (tt, tt) $ comes-back ! tt T.the-row x (s ∷ []) δ (zs .0) p (λ same₁ p₁.
       relends ! 30 14 12 (room .0) refl refl refl refl refl refl refl refl $
       asks ! (opened-entry W mem run) known-opened fm ((tt, tt, tt, (w .fein, tt), (vint w64 (w .fein) ∷ [], tt)), tt) tt
-      0 (made (uint-makes 𝓤 H A W w64 (w .fein) _ (fields .1 .1 .0)), tt) refl (and-then ! (inner ! 26 refl (sub ! 2 refl (whole !))) (no-more !)) (λ e _ begun e-is.
+      0 (made (uint-makes 𝓤 H A W w64 (w .fein) _ (fields .1 .1 .0)), tt) refl (and-then ! (part ! 26 (word 6 2 refl) refl refl) (no-more !)) (λ e _ begun e-is.
       receives ! 10 refl (LL.lawful T.the-type T′.the-laws 𝓤 H A W .typed e _ e-is .0) $
       lends-again ! tt T.the-row (holding x (zs .0)) (s ∷ []) (λ p₁ ν δ.
       asks ! (put W mem run) known-put fm (((ν ∷ [], tt), (fullShare, tt), tt, (named-as (holding x (zs .0)) δ, (w .«opened_at», (e, tt))), (s ∷ [], (vint w64 (w .«opened_at») ∷ [], (T′.lowered e ∷ [], tt)))), tt) tt
       2 (held, (made (uint-makes 𝓤 H A W w64 (w .«opened_at») _ (fields .1 .0)), (made (LL.makes T.the-type T′.the-plain 𝓤 H A e _ e-is), tt))) refl
-      (and-then ! (var ! 13 refl) (and-then ! (inner ! 27 refl (sub ! 1 refl (whole !))) (and-then ! (var ! 11 refl) (no-more !)))) (λ _ zs₂ wrote _.
+      (and-then ! (var ! 13 refl) (and-then ! (part ! 27 (word 6 1 refl) refl refl) (and-then ! (var ! 11 refl) (no-more !)))) (λ _ zs₂ wrote _.
       replaces ! 21 refl (tt, tt) $ comes-back ! tt T.the-row (holding x (zs .0)) (s ∷ []) δ (zs₂ .0) p₁ (λ same₂ p₂.
       relends ! 30 8 6 (room .0) refl refl refl refl refl refl refl refl $
       lends-shared ! tt T.the-row (holding x (zs₂ .0)) (s ∷ []) (λ p₂ ν δ.
       asks ! (entry-at W mem run) known-entry fm (((ν ∷ [], tt), (fullShare, tt), tt, (named-as (holding x (zs₂ .0)) δ, (w .«closed_at», tt)), (s ∷ [], (vint w64 (w .«closed_at») ∷ [], tt))), tt) tt
-      2 (held, (made (uint-makes 𝓤 H A W w64 (w .«closed_at») _ (fields .1 .1 .1 .0)), tt)) refl (and-then ! (var ! 7 refl) (and-then ! (inner ! 27 refl (sub ! 3 refl (whole !))) (no-more !))) (λ old _ found old-is.
+      2 (held, (made (uint-makes 𝓤 H A W w64 (w .«closed_at») _ (fields .1 .1 .1 .0)), tt)) refl (and-then ! (var ! 7 refl) (and-then ! (part ! 27 (word 6 3 refl) refl refl) (no-more !))) (λ old _ found old-is.
       -- [ν's token; what is kept; _15 at 2; …]
       receives ! 24 refl (LL.lawful T.the-type T′.the-laws 𝓤 H A W .typed old _ old-is .0) $ shared-back ! tt T.the-row (holding x (zs₂ .0)) (s ∷ []) p₂ $
       relends ! 30 4 2 (room .0) refl refl refl refl refl refl refl refl $
       asks ! (closed-entry W mem run) known-closed fm ((tt, tt, tt, (old, (w .count, (w .cents, tt))), (T′.lowered old ∷ [], (vint w64 (w .count) ∷ [], (vint w64 (w .cents) ∷ [], tt)))), tt) tt
       0 (made (LL.makes T.the-type T′.the-plain 𝓤 H A old _ old-is), (made (uint-makes 𝓤 H A W w64 (w .count) _ (fields .1 .1 .1 .1 .0)), (made (uint-makes 𝓤 H A W w64 (w .cents) _ (fields .1 .1 .1 .1 .1 .0)), tt))) refl
-      (and-then ! (var ! 24 refl) (and-then ! (inner ! 26 refl (sub ! 4 refl (whole !))) (and-then ! (inner ! 26 refl (sub ! 5 refl (whole !))) (no-more !)))) (λ e′ _ ended e′-is.
+      (and-then ! (var ! 24 refl) (and-then ! (part ! 26 (word 6 4 refl) refl refl) (and-then ! (part ! 26 (word 6 5 refl) refl refl) (no-more !)))) (λ e′ _ ended e′-is.
       replaces ! 10 refl (LL.lawful T.the-type T′.the-laws 𝓤 H A W .typed e′ _ e′-is .0) $
       asks ! (put W mem run) known-put fm (((κ, tt), (q, tt), tt, (holding x (zs₂ .0), (w .«closed_at», (e′, tt))), (s ∷ [], (vint w64 (w .«closed_at») ∷ [], (T′.lowered e′ ∷ [], tt)))), tt) tt
       2 (held, (made (uint-makes 𝓤 H A W w64 (w .«closed_at») _ (fields .1 .1 .1 .0)), (made (LL.makes T.the-type T′.the-plain 𝓤 H A e′ _ e′-is), tt))) refl
-      (and-then ! (var ! 2 refl) (and-then ! (inner ! 26 refl (sub ! 3 refl (whole !))) (and-then ! (var ! 10 refl) (no-more !)))) (λ _ zs₃ put-back _.
+      (and-then ! (var ! 2 refl) (and-then ! (part ! 26 (word 6 3 refl) refl refl) (and-then ! (var ! 10 refl) (no-more !)))) (λ _ zs₃ put-back _.
       -- [the token; what says the last list; _15 at 2; …]
       replaces ! 20 refl (tt, tt) $ sets ! (of-opd ! (unit-lit !)) 32 refl (tt, tt) $ returns ! (look ! 32 refl) $ lets-go ! 2 refl $ measures ! 1 refl (λ same₃.
       by ! (finishes W f.ended ends (f.clauses 𝓤 H A mem run) y vunit tt (zs₃ .0, (tt, tt)) (same₃ ∙ same₂ ∙ same₁, (tt, tt)) (zs₃ .0 ≡ listAfter change ys) refl

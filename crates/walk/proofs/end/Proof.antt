@@ -10,9 +10,9 @@ use Rattle.tables.specs.Room.{tables as tablesOf′}
 use Rattle.tables.specs.declared.Employer.{Employer}
 use Rattle.tables.proofs.Employer as T
 use Rattle.tables.proofs.Walk.{URA, Heap, Atoms, Given, Memory, Routine, Fun, SProp, Lft, Share, Env, Tables, Val, RefT, Room, Is, Sq, Triple, Places, Ends, gone, given-slice}
-use Rattle.tables.proofs.Walk.{Exit, finishes, proves, locals, envOf, lets-go, lose, var, inner, sets, receives, replaces, relends, Asked, held, made, asks}
+use Rattle.tables.proofs.Walk.{Exit, finishes, proves, locals, envOf, lets-go, lose, var, part, counts, sets, receives, replaces, relends, Asked, held, made, asks}
 use Rattle.tables.proofs.Walk.{measures, none, some, named, w64, vint, flft, givenOf, tables, tablesOf, FmC, fmOf, runs, atRet}
-use Rattle.tables.proofs.Walk.{‵, _$_, !, by, move, look, of-opd, and-then, no-more, returns, whole, sub, uint-makes, sliceVal, slice-vals, MutSlice, mut-slice-tells, plain, cited}
+use Rattle.tables.proofs.Walk.{‵, _$_, !, by, move, look, of-opd, and-then, no-more, returns, uint-makes, sliceVal, slice-vals, MutSlice, mut-slice-tells, plain, cited}
 use Rattle.state.specs.Walks.{walkOf}
 use Rattle.state.specs.declared.State.{State}
 use Rattle.state.proofs.State as S
@@ -27,7 +27,7 @@ use Rattle.step.proofs.Move.Laws as Mv′
 use Rattle.step.proofs.end_move.Symbol.{name as #end-move, routine as end-move-routine}
 use Rattle.step.proofs.end_move.Met as end-move-met
 use Rattle.walk.specs.Carry.{both-written, end-carried}
-use Rattle.walk.proofs.Values.{state-val, answer-val, change-val, change-at}
+use Rattle.walk.proofs.Values.{state-val, answer-val, change-val, change-in, answer-in}
 use Rattle.walk.proofs.Called.{end-move, change-ids, change-list}
 use Rattle.walk.proofs.change_ids.Symbol.{name as #change-ids, routine as change-ids-routine}
 use Rattle.walk.proofs.change_ids.Met as change-ids-met
@@ -67,25 +67,25 @@ module _ {M : Type 1} (𝓤 : URA M) (H : Heap 𝓤) (A : Atoms 𝓤) (W : Given
   walk : Sq W (‵ (flft κ₀ q₀) ∷ ‵ (flft κ₁ q₁) ∷ ‵ (MutSlice (named 0) κ₀ u32 .own ids (s₀ ∷ [])) ∷ ‵ (MutSlice (named 0) κ₁ T.the-row .own list (s₁ ∷ [])) ∷ locals En (none ∷ some (state-val st) ∷ some s₀ ∷ some s₁ ∷ []) [])
       (runs (𝓣 .C) (𝓣 .Λ) En (code.function .body) (atRet En Post))
   walk =
-      sets ! (of-opd ! (inner ! 22 refl (sub ! 1 refl (whole !)))) 16 refl (tt, record { fits = room₀ .0 }) $ sets ! (of-opd ! (inner ! 20 refl (sub ! 1 refl (whole !)))) 14 refl (tt, record { fits = room₁ .0 }) $
+      sets ! (of-opd ! (counts ! 22 refl refl)) 16 refl (tt, record { fits = room₀ .0 }) $ sets ! (of-opd ! (counts ! 20 refl refl)) 14 refl (tt, record { fits = room₁ .0 }) $
       asks ! (end-move W mem run) known-move fm ((tt, tt, tt, (st, (length (ids .now), (length (list .now), tt))), (state-val st ∷ [], (vint w64 (length (ids .now)) ∷ [], (vint w64 (length (list .now)) ∷ [], tt)))), tt) tt
       0 (made (LL.makes S.the-type S′.the-plain 𝓤 H A st _ st-is), (made (uint-makes 𝓤 H A W w64 (length (ids .now)) _ (refl, room₀ .0)), (made (uint-makes 𝓤 H A W w64 (length (list .now)) _ (refl, room₁ .0)), tt))) refl
       (and-then ! (var ! 24 refl) (and-then ! (var ! 16 refl) (and-then ! (var ! 14 refl) (no-more !)))) (λ m _ moved m-is. let fields = LL.owed Mv.the-type Mv′.the-laws m _ m-is in
       receives ! 18 refl (LL.lawful Mv.the-type Mv′.the-laws 𝓤 H A W .typed m _ m-is .0) $ relends ! 22 10 8 (room₀ .0) refl refl refl refl refl refl refl refl $
       move ! (0 ∷ 2 ∷ []) $
       asks ! (change-ids W mem run) known-ids fm (((κ₀, tt), (q₀, tt), tt, (ids, (m .change, tt)), (s₀ ∷ [], (change-val (m .change) ∷ [], tt))), tt) tt
-      2 (held, (made (EL.makes C.the-type C′.the-plain 𝓤 H A (m .change) _ (fields .1 .0)), tt)) refl (and-then ! (var ! 8 refl) (and-then ! (inner ! 18 {τ = C′.mir} {d = change-at} refl (sub ! 1 {τ = C′.mir} {d = change-at} refl (whole !))) (no-more !))) (λ _ xs wrote₀ _.
+      2 (held, (made (EL.makes C.the-type C′.the-plain 𝓤 H A (m .change) _ (fields .0)), tt)) refl (and-then ! (var ! 8 refl) (and-then ! (part ! 18 change-in refl refl) (no-more !))) (λ _ xs wrote₀ _.
       -- [κ₀'s token; ids' last list; κ₁'s; the list; _11 at 4; …]
       receives ! 12 refl (tt, tt) $ relends ! 20 6 4 (room₁ .0) refl refl refl refl refl refl refl refl $
       move ! (2 ∷ 3 ∷ []) $
       asks ! (change-list W mem run) known-list fm (((κ₁, tt), (q₁, tt), tt, (list, (m .change, tt)), (s₁ ∷ [], (change-val (m .change) ∷ [], tt))), tt) tt
-      2 (held, (made (EL.makes C.the-type C′.the-plain 𝓤 H A (m .change) _ (fields .1 .0)), tt)) refl (and-then ! (var ! 4 refl) (and-then ! (inner ! 18 {τ = C′.mir} {d = change-at} refl (sub ! 1 {τ = C′.mir} {d = change-at} refl (whole !))) (no-more !))) (λ _ ys wrote₁ _.
+      2 (held, (made (EL.makes C.the-type C′.the-plain 𝓤 H A (m .change) _ (fields .0)), tt)) refl (and-then ! (var ! 4 refl) (and-then ! (part ! 18 change-in refl refl) (no-more !))) (λ _ ys wrote₁ _.
       -- [κ₁'s token; the list's last list; κ₀'s; ids' last list; _11 at 4; …]
-      replaces ! 12 refl (tt, tt) $ sets ! (of-opd ! (inner ! 18 {τ = An′.mir} {d = 0} refl (sub ! 0 {τ = An′.mir} {d = 0} refl (whole !)))) 26 refl (LL.lawful An.the-type An′.the-laws 𝓤 H A W .typed (m .answer) _ (fields .0) .0) $
+      replaces ! 12 refl (tt, tt) $ sets ! (of-opd ! (part ! 18 answer-in refl refl)) 26 refl (LL.lawful An.the-type An′.the-laws 𝓤 H A W .typed (m .answer) _ (fields .1 .0) .0) $
       returns ! (look ! 26 refl) $ lets-go ! 4 refl $ move ! (2 ∷ 0 ∷ 3 ∷ 1 ∷ []) $ measures ! 2 refl (λ same₀. measures ! 3 refl (λ same₁.
       by ! (finishes W f.ended ends (f.clauses 𝓤 H A mem run) y (answer-val (m .answer)) (m .answer) (tt, (xs .0, (ys .0, tt))) (tt, (same₀, (same₁, tt)))
       (outOf (m .answer) (tablesOf′ (xs .0) (ys .0)) ≡ endStep (walkOf st) (tablesOf′ (ids .now) (list .now))) refl
-      (both-written m (ids .now) (list .now) (xs .0) (ys .0) wrote₀ wrote₁ ∙ end-carried m (ids .now) (list .now) (walkOf st) moved) (LL.makes An.the-type An′.the-plain 𝓤 H A (m .answer) _ (fields .0))))))))
+      (both-written m (ids .now) (list .now) (xs .0) (ys .0) wrote₀ wrote₁ ∙ end-carried m (ids .now) (list .now) (walkOf st) moved) (LL.makes An.the-type An′.the-plain 𝓤 H A (m .answer) _ (fields .1 .0))))))))
 
 pub end-spec : {M : Type 1} → stated.statement M
 unfolding code.routine tablesOf

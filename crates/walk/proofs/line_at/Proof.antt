@@ -17,9 +17,9 @@ use Rattle.tables.specs.declared.Employer.{Employer}
 use Rattle.tables.proofs.Employer as T
 use Rattle.tables.proofs.Called.{has-fein}
 use Rattle.tables.proofs.Walk.{URA, Heap, Atoms, Given, Memory, Routine, Fun, SProp, Lft, Share, Env, Tables, Val, RefT, Room, Is, Sq, Triple, Places, Ends, gone, given-slice}
-use Rattle.tables.proofs.Walk.{Exit, finishes, proves, locals, envOf, lets-go, lose, var, inner, sets, receives, replaces, relends, Asked, held, made, asks, named-as, twice}
+use Rattle.tables.proofs.Walk.{Exit, finishes, proves, locals, envOf, lets-go, lose, var, part, word, counts, sets, receives, replaces, relends, Asked, held, made, asks, named-as, twice}
 use Rattle.tables.proofs.Walk.{lends-shared, shared-back, measures, none, some, fullShare, named, w64, vbool, vint, flft, givenOf, tables, tablesOf, FmC, fmOf, runs, atRet}
-use Rattle.tables.proofs.Walk.{‵, _$_, !, by, move, look, forget, of-opd, and-then, no-more, returns, whole, sub, uint-vals, uint-tells, uint-makes, bool-makes, sliceVal, slice-vals, MutSlice, ShrSlice, mut-slice-tells, shr-slice-tells, plain, cited}
+use Rattle.tables.proofs.Walk.{‵, _$_, !, by, move, look, forget, of-opd, and-then, no-more, returns, uint-vals, uint-tells, uint-makes, bool-makes, sliceVal, slice-vals, MutSlice, ShrSlice, mut-slice-tells, shr-slice-tells, plain, cited}
 use Rattle.tables.proofs.list.has_fein.Symbol.{name as #has-fein, routine as has-fein-routine}
 use Rattle.tables.proofs.list.has_fein.Met as has-fein-met
 use Rattle.state.specs.Walks.{walkOf}
@@ -39,7 +39,7 @@ use Rattle.walk.specs.Carry.{both-written, line-carried}
 use Rattle.walk.specs.declared.Asked.{Asked as Question}
 use Rattle.walk.proofs.Asked as K
 use Rattle.walk.proofs.Asked.Laws as K′
-use Rattle.walk.proofs.Values.{state-val, answer-val, change-val, move-val, change-at}
+use Rattle.walk.proofs.Values.{state-val, answer-val, change-val, move-val, change-in, answer-in}
 use Rattle.walk.proofs.Called.{asked-at, move-at, change-ids, change-list}
 use Rattle.walk.proofs.asked_at.Symbol.{name as #asked-at, routine as asked-at-routine}
 use Rattle.walk.proofs.asked_at.Met as asked-at-met
@@ -93,24 +93,24 @@ module _ {M : Type 1} (𝓤 : URA M) (H : Heap 𝓤) (A : Atoms 𝓤) (W : Given
       -- ---- `change_ids`: [κ₁'s token; ids; κ₀'s; κ₂'s; the list; _18 at 5; …]
       relends ! 33 11 9 (room₁ .0) refl refl refl refl refl refl refl refl $
       asks ! (change-ids W mem run) known-ids fm (((κ₁, tt), (q₁, tt), tt, (ids, (m .change, tt)), (s₁ ∷ [], (change-val (m .change) ∷ [], tt))), tt) tt
-      2 (held, (made (EL.makes C.the-type C′.the-plain 𝓤 H A (m .change) _ (fields .1 .0)), tt)) refl (and-then ! (var ! 9 refl) (and-then ! (inner ! 25 {τ = C′.mir} {d = change-at} refl (sub ! 1 {τ = C′.mir} {d = change-at} refl (whole !))) (no-more !))) (λ _ xs wrote₁ _.
+      2 (held, (made (EL.makes C.the-type C′.the-plain 𝓤 H A (m .change) _ (fields .0)), tt)) refl (and-then ! (var ! 9 refl) (and-then ! (part ! 25 change-in refl refl) (no-more !))) (λ _ xs wrote₁ _.
       -- ---- `change_list`: [κ₁'s token; ids' last list; κ₀'s; κ₂'s; the list; _18 at 5; …]
       receives ! 13 refl (tt, tt) $ relends ! 31 7 5 (room₂ .0) refl refl refl refl refl refl refl refl $ move ! (3 ∷ 4 ∷ []) $
       asks ! (change-list W mem run) known-list fm (((κ₂, tt), (q₂, tt), tt, (list, (m .change, tt)), (s₂ ∷ [], (change-val (m .change) ∷ [], tt))), tt) tt
-      2 (held, (made (EL.makes C.the-type C′.the-plain 𝓤 H A (m .change) _ (fields .1 .0)), tt)) refl (and-then ! (var ! 5 refl) (and-then ! (inner ! 25 {τ = C′.mir} {d = change-at} refl (sub ! 1 {τ = C′.mir} {d = change-at} refl (whole !))) (no-more !))) (λ _ ys wrote₂ _.
+      2 (held, (made (EL.makes C.the-type C′.the-plain 𝓤 H A (m .change) _ (fields .0)), tt)) refl (and-then ! (var ! 5 refl) (and-then ! (part ! 25 change-in refl refl) (no-more !))) (λ _ ys wrote₂ _.
       -- [κ₂'s token; the list's last list; κ₁'s; ids' last list; κ₀'s; _18 at 5; …]
-      replaces ! 13 refl (tt, tt) $ sets ! (of-opd ! (inner ! 25 {τ = An′.mir} {d = 0} refl (sub ! 0 {τ = An′.mir} {d = 0} refl (whole !)))) 41 refl (LL.lawful An.the-type An′.the-laws 𝓤 H A W .typed (m .answer) _ (fields .0) .0) $
+      replaces ! 13 refl (tt, tt) $ sets ! (of-opd ! (part ! 25 answer-in refl refl)) 41 refl (LL.lawful An.the-type An′.the-laws 𝓤 H A W .typed (m .answer) _ (fields .1 .0) .0) $
       returns ! (look ! 41 refl) $ lets-go ! 5 refl $ move ! (4 ∷ 2 ∷ 0 ∷ 3 ∷ 1 ∷ []) $ measures ! 3 refl (λ same₁. measures ! 4 refl (λ same₂.
       by ! (finishes W f.ended ends (f.clauses 𝓤 H A mem run) y (answer-val (m .answer)) (m .answer) (tt, (tt, (tt, (xs .0, (ys .0, tt))))) (tt, (tt, (tt, (same₁, (same₂, tt)))))
       (outOf (m .answer) (tablesOf′ (xs .0) (ys .0)) ≡ lineStep (walkOf st) (firstLine (drop place (src .now))) (tablesOf′ (ids .now) (list .now))) refl
-      (both-written m (ids .now) (list .now) (xs .0) (ys .0) wrote₁ wrote₂ ∙ said) (LL.makes An.the-type An′.the-plain 𝓤 H A (m .answer) _ (fields .0)))))))
+      (both-written m (ids .now) (list .now) (xs .0) (ys .0) wrote₁ wrote₂ ∙ said) (LL.makes An.the-type An′.the-plain 𝓤 H A (m .answer) _ (fields .1 .0)))))))
 
   -- what the line moves is decided: [κ₂'s token; the list; κ₀'s; the source; κ₁'s; ids; _18 at 6; _17 at 8; _16 at 10; _15 at 12; _14 at 14; _13 at 16; _12 at 18; _11 at 20; …; _8 at 26; _7 at 28; …; _5 at 32; _4 at 34; _3 at 36; _2 at 38; _1 at 40; _0 at 42]
   moves : (seen : Bool) → (let s : List ℕ = capitals (drop place (src .now)) in seen ≡ isAmong (feinOn s) (feinsOf (take (entriesAsked (kindOn s) (walkOf st .all .employers)) (list .now))))
       → Sq W (‵ (flft κ₂ q₂) ∷ ‵ (MutSlice (named 0) κ₂ T.the-row .own list (s₂ ∷ [])) ∷ ‵ (flft κ₀ q₀) ∷ ‵ (ShrSlice (named 0) κ₀ u8 .own src (s₀ ∷ [])) ∷ ‵ (flft κ₁ q₁) ∷ ‵ (MutSlice (named 0) κ₁ u32 .own ids (s₁ ∷ []))
       ∷ locals En (none ∷ some (state-val st) ∷ some s₀ ∷ some (vint w64 place) ∷ some s₁ ∷ some s₂ ∷ none ∷ some (vbool seen) ∷ []) []) (runs (𝓣 .C) (𝓣 .Λ) En mirs.t-5 (atRet En Post))
   moves seen found =
-      relends ! 34 20 18 (room₁ .0) refl refl refl refl refl refl refl refl $ sets ! (of-opd ! (inner ! 32 refl (sub ! 1 refl (whole !)))) 16 refl (tt, record { fits = room₂ .0 }) $
+      relends ! 34 20 18 (room₁ .0) refl refl refl refl refl refl refl refl $ sets ! (of-opd ! (counts ! 32 refl refl)) 16 refl (tt, record { fits = room₂ .0 }) $
       -- ---- `move_at`: ids are lent as `&`, and the source is given for good
       move ! (4 ∷ 5 ∷ []) $ lends-shared ! tt u32 ids (s₁ ∷ []) (λ p ν δ. move ! (5 ∷ 0 ∷ 6 ∷ 1 ∷ []) $
       -- [κ₀'s token; ν's; the source; ids; what is kept; κ₂'s; the list; _18 at 7; …]
@@ -148,7 +148,7 @@ module _ {M : Type 1} (𝓤 : URA M) (H : Heap 𝓤) (A : Atoms 𝓤) (W : Given
       -- [ν's token; the list; what is kept; κ₀'s; the source; κ₁'s; ids; _18 at 7; …]
       asks ! (has-fein W mem run) known-has fm (((ν ∷ [], tt), (fullShare, tt), tt, (named-as list δ, (k .entries, (k .fein, tt))), (s₂ ∷ [], (vint w64 (k .entries) ∷ [], (vint w64 (k .fein) ∷ [], tt)))), tt) tt
       2 (held, (made (uint-makes 𝓤 H A W w64 (k .entries) _ (asks-of .0)), (made (uint-makes 𝓤 H A W w64 (k .fein) _ (asks-of .1 .0)), tt))) refl
-      (and-then ! (var ! 23 refl) (and-then ! (inner ! 31 {τ = tyInt w64} {d = 0} refl (sub ! 0 {τ = tyInt w64} {d = 0} refl (whole !))) (and-then ! (inner ! 31 {τ = tyInt w64} {d = 8} refl (sub ! 1 {τ = tyInt w64} {d = 8} refl (whole !))) (no-more !)))) (λ seen _ found _.
+      (and-then ! (var ! 23 refl) (and-then ! (part ! 31 (word 2 0 refl) refl refl) (and-then ! (part ! 31 (word 2 1 refl) refl refl) (no-more !)))) (λ seen _ found _.
       receives ! 28 refl (tt, tt) $ shared-back ! tt T.the-row list (s₂ ∷ []) p $
       -- [κ₂'s token; the list; κ₀'s; the source; κ₁'s; ids; _18 at 6; …]
       forget ! 22 refl $ forget ! 24 refl $ forget ! 30 refl $ moves seen (found ∙ ap (λ (q : Question). isAmong (q .fein) (feinsOf (take (q .entries) (list .now)))) asked))))

@@ -9,9 +9,9 @@ use Rattle.tables.specs.Room.{tables as tablesOf′}
 use Rattle.tables.specs.declared.Employer.{Employer}
 use Rattle.tables.proofs.Employer as T
 use Rattle.tables.proofs.Walk.{URA, Heap, Atoms, Given, Memory, Routine, Fun, SProp, Lft, Share, Env, Tables, Val, RefT, Room, Is, Sq, Triple, Places, Ends, gone, given-slice}
-use Rattle.tables.proofs.Walk.{Exit, finishes, proves, locals, envOf, lets-go, lose, var, inner, sets, receives, relends, Asked, held, made, asks, named-as, holding, twice, lends-again, comes-back}
+use Rattle.tables.proofs.Walk.{Exit, finishes, proves, locals, envOf, lets-go, lose, var, counts, sets, receives, relends, Asked, held, made, asks, named-as, holding, twice, lends-again, comes-back}
 use Rattle.tables.proofs.Walk.{measures, none, some, fullShare, named, w64, vint, flft, givenOf, tables, tablesOf, FmC, fmOf, runs, atRet}
-use Rattle.tables.proofs.Walk.{‵, _$_, !, by, move, look, of-opd, and-then, no-more, returns, whole, sub, uint-vals, uint-tells, uint-makes, sliceVal, slice-vals, MutSlice, ShrSlice, mut-slice-tells, shr-slice-tells, plain, cited}
+use Rattle.tables.proofs.Walk.{‵, _$_, !, by, move, look, of-opd, and-then, no-more, returns, uint-vals, uint-tells, uint-makes, sliceVal, slice-vals, MutSlice, ShrSlice, mut-slice-tells, shr-slice-tells, plain, cited}
 use Rattle.state.specs.Walks.{walkOf}
 use Rattle.state.specs.declared.State.{State}
 use Rattle.state.proofs.State as S
@@ -78,7 +78,7 @@ module _ {M : Type 1} (𝓤 : URA M) (H : Heap 𝓤) (A : Atoms 𝓤) (W : Given
       -- [κ₀'s token; ν's; κ₂'s; ids' last; the list's last; the source; what ids keep; _13 at 7; …]
       receives ! 21 refl (LL.lawful An.the-type An′.the-laws 𝓤 H A W .typed a _ a-is .0) $ move ! (1 ∷ 3 ∷ 6 ∷ []) $ comes-back ! tt u32 ids (s₁ ∷ []) δ xs p (λ same₁ _.
       -- [κ₁'s token; ids; κ₀'s; κ₂'s; the list's last; the source; _13 at 6; …]
-      relends ! 24 10 8 (room₁ .0) refl refl refl refl refl refl refl refl $ sets ! (of-opd ! (inner ! 22 refl (sub ! 1 refl (whole !)))) 6 refl (tt, record { fits = room₂ .0 }) $
+      relends ! 24 10 8 (room₁ .0) refl refl refl refl refl refl refl refl $ sets ! (of-opd ! (counts ! 22 refl refl)) 6 refl (tt, record { fits = room₂ .0 }) $
       -- ---- `behind`: [κ₀'s token; κ₁'s; the source; ids; κ₂'s; the list's last; _13 at 6; …]
       move ! (2 ∷ 0 ∷ 5 ∷ 1 ∷ []) $
       asks ! (behind W mem run) known-behind fm (

@@ -13,9 +13,9 @@ use Rattle.tables.specs.Room.{tables as tablesOf′}
 use Rattle.tables.specs.declared.Employer.{Employer}
 use Rattle.tables.proofs.Employer as T
 use Rattle.tables.proofs.Walk.{URA, Heap, Atoms, Given, Memory, Routine, Fun, SProp, Lft, Share, Env, Tables, Val, RefT, Room, Is, Sq, Triple, Places, Ends, gone, given-slice}
-use Rattle.tables.proofs.Walk.{Exit, finishes, proves, locals, envOf, lets-go, lose, var, inner, sets, receives, replaces, relends, Asked, held, made, asks}
+use Rattle.tables.proofs.Walk.{Exit, finishes, proves, locals, envOf, lets-go, lose, var, part, sets, receives, replaces, relends, Asked, held, made, asks}
 use Rattle.tables.proofs.Walk.{measures, none, some, named, flft, givenOf, tables, tablesOf, FmC, fmOf, runs, atRet}
-use Rattle.tables.proofs.Walk.{‵, _$_, !, by, move, look, of-opd, and-then, no-more, returns, whole, sub, sliceVal, slice-vals, MutSlice, mut-slice-tells, plain, cited}
+use Rattle.tables.proofs.Walk.{‵, _$_, !, by, move, look, of-opd, and-then, no-more, returns, sliceVal, slice-vals, MutSlice, mut-slice-tells, plain, cited}
 use Rattle.step.specs.Steps.{outOf, openStep}
 use Rattle.step.proofs.Answer as An
 use Rattle.step.proofs.Answer.Laws as An′
@@ -26,7 +26,7 @@ use Rattle.step.proofs.Move.Laws as Mv′
 use Rattle.step.proofs.open_move.Symbol.{name as #open-move, routine as open-move-routine}
 use Rattle.step.proofs.open_move.Met as open-move-met
 use Rattle.walk.specs.Carry.{both-written, open-carried}
-use Rattle.walk.proofs.Values.{quarter-val, answer-val, change-val, change-at}
+use Rattle.walk.proofs.Values.{quarter-val, answer-val, change-val, change-in, answer-in}
 use Rattle.walk.proofs.Called.{open-move, change-ids, change-list}
 use Rattle.walk.proofs.change_ids.Symbol.{name as #change-ids, routine as change-ids-routine}
 use Rattle.walk.proofs.change_ids.Met as change-ids-met
@@ -71,18 +71,18 @@ module _ {M : Type 1} (𝓤 : URA M) (H : Heap 𝓤) (A : Atoms 𝓤) (W : Given
       receives ! 14 refl (LL.lawful Mv.the-type Mv′.the-laws 𝓤 H A W .typed m _ m-is .0) $ relends ! 18 10 8 (room₀ .0) refl refl refl refl refl refl refl refl $
       move ! (0 ∷ 2 ∷ []) $
       asks ! (change-ids W mem run) known-ids fm (((κ₀, tt), (q₀, tt), tt, (ids, (m .change, tt)), (s₀ ∷ [], (change-val (m .change) ∷ [], tt))), tt) tt
-      2 (held, (made (EL.makes C.the-type C′.the-plain 𝓤 H A (m .change) _ (fields .1 .0)), tt)) refl (and-then ! (var ! 8 refl) (and-then ! (inner ! 14 {τ = C′.mir} {d = change-at} refl (sub ! 1 {τ = C′.mir} {d = change-at} refl (whole !))) (no-more !))) (λ _ xs wrote₀ _.
+      2 (held, (made (EL.makes C.the-type C′.the-plain 𝓤 H A (m .change) _ (fields .0)), tt)) refl (and-then ! (var ! 8 refl) (and-then ! (part ! 14 change-in refl refl) (no-more !))) (λ _ xs wrote₀ _.
       -- [κ₀'s token; ids' last list; κ₁'s; the list; _9 at 4; …]
       receives ! 12 refl (tt, tt) $ relends ! 16 6 4 (room₁ .0) refl refl refl refl refl refl refl refl $
       move ! (2 ∷ 3 ∷ []) $
       asks ! (change-list W mem run) known-list fm (((κ₁, tt), (q₁, tt), tt, (list, (m .change, tt)), (s₁ ∷ [], (change-val (m .change) ∷ [], tt))), tt) tt
-      2 (held, (made (EL.makes C.the-type C′.the-plain 𝓤 H A (m .change) _ (fields .1 .0)), tt)) refl (and-then ! (var ! 4 refl) (and-then ! (inner ! 14 {τ = C′.mir} {d = change-at} refl (sub ! 1 {τ = C′.mir} {d = change-at} refl (whole !))) (no-more !))) (λ _ ys wrote₁ _.
+      2 (held, (made (EL.makes C.the-type C′.the-plain 𝓤 H A (m .change) _ (fields .0)), tt)) refl (and-then ! (var ! 4 refl) (and-then ! (part ! 14 change-in refl refl) (no-more !))) (λ _ ys wrote₁ _.
       -- [κ₁'s token; the list's last list; κ₀'s; ids' last list; _9 at 4; …]
-      replaces ! 12 refl (tt, tt) $ sets ! (of-opd ! (inner ! 14 {τ = An′.mir} {d = 0} refl (sub ! 0 {τ = An′.mir} {d = 0} refl (whole !)))) 22 refl (LL.lawful An.the-type An′.the-laws 𝓤 H A W .typed (m .answer) _ (fields .0) .0) $
+      replaces ! 12 refl (tt, tt) $ sets ! (of-opd ! (part ! 14 answer-in refl refl)) 22 refl (LL.lawful An.the-type An′.the-laws 𝓤 H A W .typed (m .answer) _ (fields .1 .0) .0) $
       returns ! (look ! 22 refl) $ lets-go ! 4 refl $ move ! (2 ∷ 0 ∷ 3 ∷ 1 ∷ []) $ measures ! 2 refl (λ same₀. measures ! 3 refl (λ same₁.
       by ! (finishes W f.ended ends (f.clauses 𝓤 H A mem run) y (answer-val (m .answer)) (m .answer) (tt, (xs .0, (ys .0, tt))) (tt, (same₀, (same₁, tt)))
       (outOf (m .answer) (tablesOf′ (xs .0) (ys .0)) ≡ openStep quarter (tablesOf′ (ids .now) (list .now))) refl
-      (both-written m (ids .now) (list .now) (xs .0) (ys .0) wrote₀ wrote₁ ∙ open-carried m (ids .now) (list .now) quarter moved) (LL.makes An.the-type An′.the-plain 𝓤 H A (m .answer) _ (fields .0))))))))
+      (both-written m (ids .now) (list .now) (xs .0) (ys .0) wrote₀ wrote₁ ∙ open-carried m (ids .now) (list .now) quarter moved) (LL.makes An.the-type An′.the-plain 𝓤 H A (m .answer) _ (fields .1 .0))))))))
 
 pub open-spec : {M : Type 1} → stated.statement M
 unfolding code.routine tablesOf

@@ -16,9 +16,9 @@ use Rattle.tables.specs.Room.{tables as tablesOf′}
 use Rattle.tables.specs.declared.Employer.{Employer}
 use Rattle.tables.proofs.Employer as T
 use Rattle.tables.proofs.Walk.{URA, Heap, Atoms, Given, Memory, Routine, Fun, SProp, Lft, Share, Item, Env, Tables, Val, RefT, Room, Is, Sq, Triple, Places, Ends, gone, given-slice}
-use Rattle.tables.proofs.Walk.{Exit, finishes, proves, locals, envOf, lets-go, lose, var, inner, sets, resets, receives, relends, tests, Asked, held, made, asks, asks-last, named-as, holding, twice}
+use Rattle.tables.proofs.Walk.{Exit, finishes, proves, locals, envOf, lets-go, lose, var, part, counts, sets, resets, receives, relends, tests, Asked, held, made, asks, asks-last, named-as, holding, twice}
 use Rattle.tables.proofs.Walk.{Nearer, nearer-wf, Turned, lends-again, comes-back, measures, none, some, fullShare, named, w64, vint, flft, givenOf, tables, tablesOf, afterTurn, FmC, fmOf, runs, atRet, anyQ}
-use Rattle.tables.proofs.Walk.{‵, _$_, !, by, move, look, store, forget, stop, from, lit, of-opd, bin, and-then, no-more, first, blocks, loops, again, exec, returns, whole, sub}
+use Rattle.tables.proofs.Walk.{‵, _$_, !, by, move, look, store, forget, stop, from, lit, of-opd, bin, and-then, no-more, first, blocks, loops, again, exec, returns, whole}
 use Rattle.tables.proofs.Walk.{uint-makes, sliceVal, slice-vals, MutSlice, ShrSlice, mut-slice-tells, shr-slice-tells, plain, cited}
 use Rattle.state.specs.Walks.{walkOf}
 use Rattle.state.specs.declared.State.{State}
@@ -32,7 +32,7 @@ use Rattle.step.proofs.Reply.Laws as R′
 use Rattle.walk.specs.Calls.{calls, wholeFile}
 use Rattle.walk.specs.WholeLaws.{all, whole-means, loop-done}
 use Rattle.walk.specs.RunLaws.{run-within, run-next, run-farther}
-use Rattle.walk.proofs.Values.{quarter-val, state-val, answer-val, reply-val, reply-at}
+use Rattle.walk.proofs.Values.{quarter-val, state-val, answer-val, reply-val, reply-in, state-in}
 use Rattle.walk.proofs.Called.{opens, lines-at, next-place, ends as end-call}
 use Rattle.walk.proofs.open.Symbol.{name as #open, routine as open-routine}
 use Rattle.walk.proofs.open.Met as open-met
@@ -121,7 +121,7 @@ module _ {M : Type 1} (𝓤 : URA M) (H : Heap 𝓤) (A : Atoms 𝓤) (W : Given
   unfolding afterTurn
   turns k =
       let x₁ = holding ids (k .xs) in let x₂ = holding list (k .ys) in
-      sets ! (of-opd ! (inner ! 46 refl (sub ! 1 refl (whole !)))) 24 refl (tt, record { fits = room₀ .0 }) $ sets ! (bin ! (var ! 36 refl) (var ! 24 refl) tt) 22 refl (tt, tt) $ tests ! (var ! 22 refl)
+      sets ! (of-opd ! (counts ! 46 refl refl)) 24 refl (tt, record { fits = room₀ .0 }) $ sets ! (bin ! (var ! 36 refl) (var ! 24 refl) tt) 22 refl (tt, tt) $ tests ! (var ! 22 refl)
       (λ less.
       let lt : k .place < n = ltb→lt (k .place) n less in
       relends ! 44 20 18 (room₁ .0) refl refl refl refl refl refl refl refl $ relends ! 42 16 14 (room₂ .0) refl refl refl refl refl refl refl refl $
@@ -143,11 +143,11 @@ module _ {M : Type 1} (𝓤 : URA M) (H : Heap 𝓤) (A : Atoms 𝓤) (W : Given
       -- [κ₁'s token; ids; κ₀'s; ν₂'s; the list's last; the source; what the list keeps; _22 at 7; …]
       move ! (3 ∷ 4 ∷ 6 ∷ []) $ comes-back ! tt T.the-row x₂ (s₂ ∷ []) δ₂ ys′ p₂ (λ same₂ _.
       -- [κ₂'s token; the list; κ₁'s; ids; κ₀'s; the source; _22 at 6; …]
-      move ! (4 ∷ 2 ∷ 0 ∷ 5 ∷ 3 ∷ 1 ∷ []) $ resets ! (of-opd ! (inner ! 34 {τ = S′.mir} {d = 0} refl (sub ! 0 {τ = S′.mir} {d = 0} refl (whole !)))) 38 refl (LL.lawful S.the-type S′.the-laws 𝓤 H A W .typed (r .state) _ (fields .0) .0) $
-      resets ! (of-opd ! (inner ! 46 refl (sub ! 1 refl (whole !)))) 24 refl (tt, record { fits = room₀ .0 }) $
+      move ! (4 ∷ 2 ∷ 0 ∷ 5 ∷ 3 ∷ 1 ∷ []) $ resets ! (of-opd ! (part ! 34 state-in refl refl)) 38 refl (LL.lawful S.the-type S′.the-laws 𝓤 H A W .typed (r .state) _ (fields .1 .0) .0) $
+      resets ! (of-opd ! (counts ! 46 refl refl)) 24 refl (tt, record { fits = room₀ .0 }) $
       asks-last ! (next-place W mem run) known-next fm ((tt, tt, tt, (k .place, (r .reply, (n, tt))), (vint w64 (k .place) ∷ [], (reply-val (r .reply) ∷ [], (vint w64 n ∷ [], tt)))), tt) (run-within (src .now) (k .place) (walkOf (k .st)) t o lt said)
-      0 (made (uint-makes 𝓤 H A W w64 (k .place) _ (refl, omega (arith, lt, room₀ .0))), (made (EL.makes R.the-type R′.the-plain 𝓤 H A (r .reply) _ (fields .1 .0)), (made (uint-makes 𝓤 H A W w64 n _ (refl, room₀ .0)), tt))) refl
-      (and-then ! (var ! 36 refl) (and-then ! (inner ! 34 {τ = R′.mir} {d = reply-at} refl (sub ! 1 {τ = R′.mir} {d = reply-at} refl (whole !))) (and-then ! (var ! 24 refl) (no-more !)))) (λ next _ goes next-is.
+      0 (made (uint-makes 𝓤 H A W w64 (k .place) _ (refl, omega (arith, lt, room₀ .0))), (made (EL.makes R.the-type R′.the-plain 𝓤 H A (r .reply) _ (fields .0)), (made (uint-makes 𝓤 H A W w64 n _ (refl, room₀ .0)), tt))) refl
+      (and-then ! (var ! 36 refl) (and-then ! (part ! 34 reply-in refl refl) (and-then ! (var ! 24 refl) (no-more !)))) (λ next _ goes next-is.
       let farther = run-farther (src .now) (k .place) (walkOf (k .st)) t o lt said in
       let above : k .place < next = rw goes (farther .0) in let inside : next ≤ n = rw goes (farther .1) in
       land-last ! (from ! (stop !)) (store ! 36 refl (tt, record { fits = next-is .1 })) $
@@ -157,7 +157,7 @@ module _ {M : Type 1} (𝓤 : URA M) (H : Heap 𝓤) (A : Atoms 𝓤) (W : Given
         st = r .state;
         xs = xs′;
         ys = ys′;
-        st-ok = fields .0;
+        st-ok = fields .1 .0;
         within = inside;
         xs-same = same₁ ∙ k .xs-same;
         ys-same = same₂ ∙ k .ys-same;
@@ -181,14 +181,14 @@ module _ {M : Type 1} (𝓤 : URA M) (H : Heap 𝓤) (A : Atoms 𝓤) (W : Given
       -- [κ₁'s token; ids; ν₂'s; the list's last; what the list keeps; κ₀'s; the source; _22 at 7; …]
       move ! (2 ∷ 3 ∷ 4 ∷ []) $ comes-back ! tt T.the-row list (s₂ ∷ []) δ₂ (ws .1 .1 .0) p₂ (λ same₂ _.
       -- [κ₂'s token; the list; κ₁'s; ids; κ₀'s; the source; _22 at 6; …]
-      move ! (4 ∷ 2 ∷ 0 ∷ 5 ∷ 3 ∷ 1 ∷ []) $ sets ! (of-opd ! (inner ! 40 {τ = S′.mir} {d = 0} refl (sub ! 0 {τ = S′.mir} {d = 0} refl (whole !)))) 38 refl (LL.lawful S.the-type S′.the-laws 𝓤 H A W .typed (r .state) _ (fields .0) .0) $
+      move ! (4 ∷ 2 ∷ 0 ∷ 5 ∷ 3 ∷ 1 ∷ []) $ sets ! (of-opd ! (part ! 40 state-in refl refl)) 38 refl (LL.lawful S.the-type S′.the-laws 𝓤 H A W .typed (r .state) _ (fields .1 .0) .0) $
       sets ! (of-opd ! (lit ! tt)) 36 refl (tt, record { fits = lit< tt }) $ forget ! 26 refl $ forget ! 28 refl $ forget ! 30 refl $ forget ! 32 refl $ forget ! 40 refl $
       loop (record {
         place = 0;
         st = r .state;
         xs = ws .1 .0;
         ys = ws .1 .1 .0;
-        st-ok = fields .0;
+        st-ok = fields .1 .0;
         within = omega arith;
         xs-same = same₁;
         ys-same = same₂;

@@ -11,9 +11,9 @@ use Rattle.tables.proofs.Employer as T
 use Rattle.tables.proofs.Employer.Laws as T′
 use Rattle.tables.proofs.Entries.{sliceOf, Shared, vals, at-rest, scaled, looks-entry, shuts-entry, points}
 use Rattle.tables.proofs.Walk.{URA, Heap, Atoms, Given, Memory, Routine, Fun, SProp, Lft, Share, Env, Tables, Val, RefT, Room, Is, Sq, Places, Ends, gone, Exit}
-use Rattle.tables.proofs.Walk.{finishes, proves, locals, envOf, lets-go, lose, var, inner, sets, whens, none, some, named, w64, vint, flft, givenOf}
+use Rattle.tables.proofs.Walk.{finishes, proves, locals, envOf, lets-go, lose, var, counts, refers, sets, whens, none, some, named, w64, vint, flft, givenOf}
 use Rattle.tables.proofs.Walk.{tables, tablesOf, prop, runs, atRet, ‵, _$_, !, by, look, look-raw, stop, hop, from, load, lit, of-opd, bin, and-then, no-more, returns}
-use Rattle.tables.proofs.Walk.{returns-within, whole, sub, agg, uint-vals, uint-tells, slice-vals, shr-slice-tells}
+use Rattle.tables.proofs.Walk.{returns-within, agg, uint-vals, uint-tells, slice-vals, shr-slice-tells}
 use Rattle.tables.proofs.list.entry_at as f
 use Rattle.tables.proofs.list.entry_at.Code as code
 use Rattle.tables.proofs.list.entry_at.Key.{name as #entry-at}
@@ -42,11 +42,11 @@ module _ {M : Type 1} (𝓤 : URA M) (H : Heap 𝓤) (A : Atoms 𝓤) (W : Given
   -- [the token; the list; _7 at 2; _6 at 4; _5 at 6; _4 at 8; _3 at 10; _2 at 12; _1 at 14; _0 at 16]
   walk : Sq W (‵ (flft κ q) ∷ ‵ (Shared κ x) ∷ locals En (none ∷ some (sliceOf x) ∷ some (vint w64 i) ∷ []) []) (runs (𝓣 .C) (𝓣 .Λ) En (code.function .body) (atRet En Post))
   walk =
-      sets ! (of-opd ! (inner ! 14 refl (sub ! 1 refl (whole !)))) 10 refl (tt, record { fits = room .0 }) $
+      sets ! (of-opd ! (counts ! 14 refl refl)) 10 refl (tt, record { fits = room .0 }) $
       sets ! (bin ! (var ! 12 refl) (var ! 10 refl) tt) 8 refl (tt, tt) $ whens ! (var ! 8 refl)
       (λ held. let within = ltb→lt i (length ys) held in let fits = scaled i (length ys) within (room .1) in
       sets ! (bin ! (var ! 12 refl) (lit ! tt) (record { fits = fits })) 6 refl (tt, record { fits = fits }) $
-      points ! (x .ptr .0) (x .ptr .1) i (inner ! 14 refl (sub ! 0 refl (whole !))) (var ! 6 refl) 4 refl tt $
+      points ! (x .ptr .0) (x .ptr .1) i (refers ! 14 refl refl) (var ! 6 refl) 4 refl tt $
       looks-entry ! tt x (sliceOf x ∷ []) i within (λ q′ is. let typed = LL.lawful T.the-type T′.the-laws 𝓤 H A W .typed (getD ys i noEmployer) _ is .0 in
       -- [the entry; what it owns; the others; the open borrow; the list; _7 at 5; …]
       sets ! (of-opd ! (load ! (from ! (hop ! (look ! 7 refl) (stop !))) (look-raw ! 0 refl))) 5 refl typed $

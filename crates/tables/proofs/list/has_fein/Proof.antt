@@ -17,7 +17,7 @@ use Rattle.tables.proofs.Employer.Laws as T′
 use Rattle.tables.proofs.Called.{lesser}
 use Rattle.tables.proofs.Entries.{sliceOf, Shared, scaled, looks-entry, shuts-entry, points}
 use Rattle.tables.proofs.Walk.{URA, Heap, Atoms, Given, Memory, Routine, Fun, SProp, Lft, Share, Env, Tables, Item, Val, RefT, Room, Sq, Triple, Places}
-use Rattle.tables.proofs.Walk.{Ends, gone, Exit, finishes, proves, locals, envOf, lets-go, lose, var, inner, sets, resets, receives, tests, Asked, made, asks}
+use Rattle.tables.proofs.Walk.{Ends, gone, Exit, finishes, proves, locals, envOf, lets-go, lose, var, counts, refers, sets, resets, receives, tests, Asked, made, asks}
 use Rattle.tables.proofs.Walk.{Nearer, nearer-wf, Turned, none, some, fullShare, named, w64, tyBool, vbool, vint, fat, flft, spotOf, afterTurn, givenOf, tables}
 use Rattle.tables.proofs.Walk.{tablesOf, fmOf, runs, atRet, anyQ, ‵, _$_, !, by, rewrite, look, store, forget, stop, hop, fld, from, load, lit, false-lit}
 use Rattle.tables.proofs.Walk.{of-opd, bin, and-then, no-more, assigns-last, first, blocks, loops, again, exec, returns, whole, sub, look-in, uint-vals}
@@ -79,7 +79,7 @@ module _ {M : Type 1} (𝓤 : URA M) (H : Heap 𝓤) (A : Atoms 𝓤) (W : Given
         let fits = scaled (k .0) (length ys) within (room .1) in
         let next : k .0 + 1 < 2 ^ 64 = omega (arith, within, room .0) in
         sets ! (bin ! (var ! 12 refl) (lit ! tt) (record { fits = fits })) 6 refl (tt, record { fits = fits }) $
-        points ! (x .ptr .0) (x .ptr .1) (k .0) (inner ! 22 refl (sub ! 0 refl (whole !))) (var ! 6 refl) 4 refl tt $
+        points ! (x .ptr .0) (x .ptr .1) (k .0) (refers ! 22 refl refl) (var ! 6 refl) 4 refl tt $
         looks-entry ! tt x (sliceOf x ∷ []) (k .0) within (λ q′ is.
         -- [the entry; what it owns; the others; the open borrow; the list; _11 at 5; _10 at 7; …; _8 at 11; …; _3 at 21; …]
         sets ! (of-opd ! (load ! (from ! (hop ! (look ! 7 refl) (fld ! refl (stop !)))) (look-in ! 0 (sub ! 0 refl (whole !))))) 5 refl (tt, record { fits = LL.owed T.the-type T′.the-laws (getD ys (k .0) noEmployer) _ is .0 .1 }) $
@@ -95,7 +95,7 @@ module _ {M : Type 1} (𝓤 : URA M) (H : Heap 𝓤) (A : Atoms 𝓤) (W : Given
   walk : Triple 𝓤 (𝓣 .C #lesser) (Asked (lesser W mem run))
       → Sq W (‵ (flft κ q) ∷ ‵ (Shared κ x) ∷ locals En (none ∷ some (sliceOf x) ∷ some (vint w64 n) ∷ some (vint w64 fein) ∷ []) []) (runs (𝓣 .C) (𝓣 .Λ) En (code.function .body) (atRet En Post))
   walk known =
-      sets ! (of-opd ! (inner ! 22 refl (sub ! 1 refl (whole !)))) 10 refl (tt, record { fits = room .0 }) $
+      sets ! (of-opd ! (counts ! 22 refl refl)) 10 refl (tt, record { fits = room .0 }) $
       asks ! (lesser W mem run) known (fmOf 𝓤 H (W .laws) 𝓣) ((tt, tt, tt, (n, (length ys, tt)), (vint w64 n ∷ [], (vint w64 (length ys) ∷ [], tt))), tt) tt
       0 (made (uint-makes 𝓤 H A W w64 n _ (refl, n-fits)), (made (uint-makes 𝓤 H A W w64 (length ys) _ (refl, room .0)), tt)) refl (and-then ! (var ! 20 refl) (and-then ! (var ! 10 refl) (no-more !))) (λ end _ is-end is.
       receives ! 16 refl (tt, record { fits = is .1 }) $

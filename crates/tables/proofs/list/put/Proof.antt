@@ -11,9 +11,9 @@ use Rattle.tables.proofs.Employer as T
 use Rattle.tables.proofs.Employer.Laws as T′
 use Rattle.tables.proofs.Entries.{sliceOf, Owned, vals, scaled, opens-entry, closes-entry, points}
 use Rattle.tables.proofs.Walk.{URA, Heap, Atoms, Given, Memory, Routine, Fun, SProp, Lft, Share, Env, Tables, Val, RefT, Room, Is, Sq, Places, Ends, gone}
-use Rattle.tables.proofs.Walk.{kept-slice, Exit, finishes, proves, locals, envOf, lets-go, lose, var, inner, sets, none, some, named, w64, vunit}
+use Rattle.tables.proofs.Walk.{kept-slice, Exit, finishes, proves, locals, envOf, lets-go, lose, var, counts, refers, sets, none, some, named, w64, vunit}
 use Rattle.tables.proofs.Walk.{vbool, vint, flft, givenOf, tables, tablesOf, runs, atRet, ‵, _$_, !, by, look, store-raw, forget, stop, hop, from, lit, unit-lit, of-opd}
-use Rattle.tables.proofs.Walk.{bin, assigns-last, first, branches, skips, exec, returns, whole, sub, uint-vals, uint-tells, nothing-makes, slice-vals}
+use Rattle.tables.proofs.Walk.{bin, assigns-last, first, branches, skips, exec, returns, uint-vals, uint-tells, nothing-makes, slice-vals}
 use Rattle.tables.proofs.Walk.{mut-slice-tells, plain}
 use Rattle.tables.proofs.list.put as f
 use Rattle.tables.proofs.list.put.Code as code
@@ -48,11 +48,11 @@ module _ {M : Type 1} (𝓤 : URA M) (H : Heap 𝓤) (A : Atoms 𝓤) (W : Given
   -- [the token; the list; _7 at 2; _6 at 4; _5 at 6; _4 at 8; _3 at 10; _2 at 12; _1 at 14; _0 at 16]
   walk : Sq W (‵ (flft κ q) ∷ ‵ (Owned κ x ys) ∷ locals En (none ∷ some (sliceOf x) ∷ some (vint w64 i) ∷ some (T′.lowered e) ∷ []) []) (runs (𝓣 .C) (𝓣 .Λ) En (code.function .body) (atRet En Post))
   walk =
-      sets ! (of-opd ! (inner ! 14 refl (sub ! 1 refl (whole !)))) 8 refl (tt, record { fits = room .0 }) $
+      sets ! (of-opd ! (counts ! 14 refl refl)) 8 refl (tt, record { fits = room .0 }) $
       sets ! (bin ! (var ! 12 refl) (var ! 8 refl) tt) 6 refl (tt, tt) $ first ! $ branches ! (var ! 6 refl)
       (λ held. let within = ltb→lt i (length ys) held in let fits = scaled i (length ys) within (room .1) in
       sets ! (bin ! (var ! 12 refl) (lit ! tt) (record { fits = fits })) 4 refl (tt, record { fits = fits }) $
-      points ! (x .ptr .0) (x .ptr .1) i (inner ! 14 refl (sub ! 0 refl (whole !))) (var ! 4 refl) 2 refl tt $
+      points ! (x .ptr .0) (x .ptr .1) i (refers ! 14 refl refl) (var ! 4 refl) 2 refl tt $
       opens-entry ! tt x (sliceOf x ∷ []) i within (λ p.
       -- [the entry; the others; the open borrow; its ghost name's halves; _7 at 5; …]
       assigns-last ! (of-opd ! (var ! 13 refl)) (from ! (hop ! (look ! 5 refl) (stop !))) (store-raw ! 0 refl (LL.lawful T.the-type T′.the-laws 𝓤 H A W .typed e _ is .0)) $

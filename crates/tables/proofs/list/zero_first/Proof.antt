@@ -16,10 +16,10 @@ use Rattle.tables.proofs.Employer.Laws as T′
 use Rattle.tables.proofs.Called.{lesser}
 use Rattle.tables.proofs.Entries.{sliceOf, Owned, at-rest, scaled, opens-entry, closes-entry, points}
 use Rattle.tables.proofs.Walk.{URA, Heap, Atoms, Given, Memory, Routine, Fun, SProp, Lft, Share, Env, Tables, Item, Val, RefT, Room, Sq, Triple, Places}
-use Rattle.tables.proofs.Walk.{Ends, gone, kept-slice, Exit, finishes, proves, locals, envOf, lets-go, lose, var, inner, sets, receives, tests, Asked, made}
+use Rattle.tables.proofs.Walk.{Ends, gone, kept-slice, Exit, finishes, proves, locals, envOf, lets-go, lose, var, counts, refers, sets, receives, tests, Asked, made}
 use Rattle.tables.proofs.Walk.{asks, holding, Nearer, nearer-wf, Turned, none, some, named, w64, vunit, vint, flft, afterTurn, givenOf, tables, tablesOf, fmOf}
 use Rattle.tables.proofs.Walk.{runs, atRet, anyQ, ‵, _$_, !, by, rewrite, look, store, store-raw, forget, stop, hop, from, lit, unit-lit, of-opd, bin, and-then}
-use Rattle.tables.proofs.Walk.{no-more, assigns, assigns-last, first, blocks, loops, again, exec, returns, whole, sub, agg, uint-vals, uint-tells, uint-makes}
+use Rattle.tables.proofs.Walk.{no-more, assigns, assigns-last, first, blocks, loops, again, exec, returns, agg, uint-vals, uint-tells, uint-makes}
 use Rattle.tables.proofs.Walk.{nothing-makes, slice-vals, mut-slice-tells, plain, cited}
 use Rattle.tables.proofs.lesser.Met as lesser-met
 use Rattle.tables.proofs.lesser.Symbol.{name as #lesser, routine as lesser-routine}
@@ -74,7 +74,7 @@ module _ {M : Type 1} (𝓤 : URA M) (H : Heap 𝓤) (A : Atoms 𝓤) (W : Given
         let fits = scaled (k .0) (length ys) within (room .1) in
         let next : k .0 + 1 < 2 ^ 64 = omega (arith, within, room .0) in
         sets ! (bin ! (var ! 10 refl) (lit ! tt) (record { fits = fits })) 4 refl (tt, record { fits = fits }) $
-        points ! (x .ptr .0) (x .ptr .1) (k .0) (inner ! 18 refl (sub ! 0 refl (whole !))) (var ! 4 refl) 2 refl tt $
+        points ! (x .ptr .0) (x .ptr .1) (k .0) (refers ! 18 refl refl) (var ! 4 refl) 2 refl tt $
         opens-entry ! tt (holding x l) (sliceOf x ∷ []) (k .0) (subst (λ (m : ℕ). k .0 < m) (sym same) within) (λ p.
         -- [the entry; the others; the open borrow; its ghost name's halves; _9 at 5; …]
         assigns ! (of-opd ! (var ! 15 refl)) (from ! (hop ! (look ! 5 refl) (stop !))) (store-raw ! 0 refl (LL.lawful T.the-type T′.the-laws 𝓤 H A W .typed noEmployer _ at-rest .0)) $
@@ -90,7 +90,7 @@ module _ {M : Type 1} (𝓤 : URA M) (H : Heap 𝓤) (A : Atoms 𝓤) (W : Given
   walk : Triple 𝓤 (𝓣 .C #lesser) (Asked (lesser W mem run))
       → Sq W (‵ (flft κ q) ∷ ‵ (Owned κ x ys) ∷ locals En (none ∷ some (sliceOf x) ∷ some (vint w64 n) ∷ []) []) (runs (𝓣 .C) (𝓣 .Λ) En (code.function .body) (atRet En Post))
   walk known =
-      sets ! (of-opd ! (inner ! 18 refl (sub ! 1 refl (whole !)))) 8 refl (tt, record { fits = room .0 }) $
+      sets ! (of-opd ! (counts ! 18 refl refl)) 8 refl (tt, record { fits = room .0 }) $
       asks ! (lesser W mem run) known (fmOf 𝓤 H (W .laws) 𝓣) ((tt, tt, tt, (n, (length ys, tt)), (vint w64 n ∷ [], (vint w64 (length ys) ∷ [], tt))), tt) tt
       0 (made (uint-makes 𝓤 H A W w64 n _ (refl, n-fits)), (made (uint-makes 𝓤 H A W w64 (length ys) _ (refl, room .0)), tt)) refl (and-then ! (var ! 16 refl) (and-then ! (var ! 8 refl) (no-more !))) (λ end _ is-end is.
       receives ! 14 refl (tt, record { fits = is .1 }) $
