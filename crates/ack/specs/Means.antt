@@ -16,7 +16,8 @@ use Rattle.tables.specs.Pad.{pad, length-pad}
 use Rattle.tables.specs.Room.{Tables, tables, roomOf}
 use Rattle.tables.specs.Tables.{noEmployer}
 use Rattle.tables.specs.declared.Employer.{Employer}
-use Rattle.meaning.specs.Before.{phaseAfter, totalsIn, entriesIn}
+use Rattle.meaning.specs.Before.{phaseIn, totalsIn, entriesIn}
+use Rattle.meaning.specs.BeforeLaws.{entries-many}
 use Rattle.meaning.specs.Meaning.{Outcome, accepted, refused, recordsOnto, meaning}
 use Rattle.meaning.specs.Theorems.{accepted-iff}
 use Rattle.state.specs.Unfit.{isLeft, unfit}
@@ -60,12 +61,12 @@ refused-written says list out left h =
     ∙ fit-written (refusalFrame says) out (rw (refusal-length says) (omega arith))
 
 -- ---- acceptance
-module _ (held : Quarter) (allowed : isAllowed held ≡ true) (p : List Said) (good : Good programRoom held p) (last : phaseAfter p ≡ AfterF) where
+module _ (held : Quarter) (allowed : isAllowed held ≡ true) (p : List Said) (good : Good programRoom held p) (last : phaseIn p ≡ AfterF) where
   abbrev list : List Employer
   list = pad noEmployer 1024 (entriesIn p)
 
   few : length (entriesIn p) ≤ 1024
-  few = omega (arith, good .entries, good .list-fit)
+  few = omega (arith, entries-many p, good .list-fit)
 
   accepted-fits : unfit (roomWithout (acceptedAt held p) list) (acceptedAt held p) ≡ false
   accepted-fits =
@@ -76,7 +77,7 @@ module _ (held : Quarter) (allowed : isAllowed held ≡ true) (p : List Said) (g
 
   accepted-written : (out : List ℕ) → enough ≤ length out → framing (acceptedAt held p) list out ≡ writes (framesOf (accepted (entriesIn p) (totalsIn p))) out
   accepted-written out h =
-      accepted-framed (acceptedAt held p) out (entriesIn p) 1024 accepted-fits refl (sym (good .entries))
+      accepted-framed (acceptedAt held p) out (entriesIn p) 1024 accepted-fits refl (sym (entries-many p))
       ∙ fit-written (framesOf (accepted (entriesIn p) (totalsIn p))) out (rw (within-bound (accepted (entriesIn p) (totalsIn p))) (omega (arith, few)))
 
 -- ---- a file

@@ -16,13 +16,13 @@ use Rattle.record.specs.declared.said.Said.{Said}
 use Rattle.tables.specs.Room.{Room}
 use Rattle.tables.specs.Tables.{isAmong}
 use Rattle.tables.specs.declared.Employer.{Employer}
-use Rattle.meaning.specs.Before.{phaseAfter, filedIn, openIn, idsUnder, totalsIn, feinsIn, closedIn}
+use Rattle.meaning.specs.Before.{phaseIn, filedIn, openIn, idsUnder, totalsIn, feinsIn, entriesIn}
 use Rattle.meaning.specs.Meaning.{contextAt}
 use Rattle.alike.specs.Alike.{under, repeatsAfter, wagesOf}
 
 pub record Level (p q : List Said) : Type 0 where
   pub lines : length p ≡ length q
-  pub phase : phaseAfter p ≡ phaseAfter q
+  pub phase : phaseIn p ≡ phaseIn q
   pub filed : filedIn p ≡ filedIn q
   pub fein : openIn p .fein ≡ openIn q .fein
   pub follow : openIn p .follow ≡ openIn q .follow
@@ -31,7 +31,7 @@ pub record Level (p q : List Said) : Type 0 where
   pub employers : totalsIn p .employers ≡ totalsIn q .employers
   pub used : length (idsUnder p) ≡ length (idsUnder q)
   pub feins : feinsIn p ≡ feinsIn q
-  pub closed : closedIn p ≡ closedIn q
+  pub entries : entriesIn p ≡ entriesIn q
   pub sums : totalsIn p .sum + openIn q .sum ≡ totalsIn q .sum + openIn p .sum
 
 -- The numbers other than zero under the open E are those that stand on the S records so far.
@@ -40,7 +40,7 @@ Holds p earlier = (id : ℕ) → (id ≡ 0 → ⊥) → isAmong id (idsUnder p) 
 
 -- No E is open; or one is, and the S records to come make its repeats and its wages alike.
 pub data Run (p q : List Said) (one other : List Line) : Type 0 where
-  shut : (phaseAfter p ≡ EOpen → ⊥) → openIn p .sum ≡ openIn q .sum → idsUnder p ≡ [] → idsUnder q ≡ [] → Run p q one other
+  shut : (phaseIn p ≡ EOpen → ⊥) → openIn p .sum ≡ openIn q .sum → idsUnder p ≡ [] → idsUnder q ≡ [] → Run p q one other
   running : (earlier before : List ℕ) → Holds p earlier → Holds q before → repeatsAfter earlier (under one) ≡ repeatsAfter before (under other)
       → openIn p .sum + wagesOf (under one) ≡ openIn q .sum + wagesOf (under other) → Run p q one other
 
@@ -75,19 +75,19 @@ pub record Sum : Type 0 where
   pub all : Totals
   pub used : ℕ
   pub feins : List ℕ
-  pub closed : List Employer
+  pub entries : List Employer
 
 abbrev pub sumOf : List Said → Sum
 sumOf p =
     record {
       lines = length p;
-      phase = phaseAfter p;
+      phase = phaseIn p;
       filed = filedIn p;
       this = openIn p;
       all = totalsIn p;
       used = length (idsUnder p);
       feins = feinsIn p;
-      closed = closedIn p;
+      entries = entriesIn p;
     }
 
 pub level-same : (p q : List Said) → sumOf p ≡ sumOf q → Level p q
@@ -105,6 +105,6 @@ level-same p q e =
       employers = ap (λ (t : Totals). t .employers) all;
       used = ap (λ (s : Sum). s .used) e;
       feins = ap (λ (s : Sum). s .feins) e;
-      closed = ap (λ (s : Sum). s .closed) e;
+      entries = ap (λ (s : Sum). s .entries) e;
       sums = rw (this, all);
     }

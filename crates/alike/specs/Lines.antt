@@ -28,7 +28,7 @@ use Rattle.record.specs.declared.said.Said.the-variants.{OfA, OfE, OfS, OfT, Of
 use Rattle.tables.specs.Laws.{among-none}
 use Rattle.tables.specs.Room.{Room}
 use Rattle.tables.specs.Tables.{isAmong}
-use Rattle.meaning.specs.Before.{phaseAfter, idsUnder, openIn}
+use Rattle.meaning.specs.Before.{phaseIn, idsUnder, openIn}
 use Rattle.meaning.specs.FileLaws.{onto-nil, onto-cons, meaning-end, meaning-refuses, meaning-goes-on}
 use Rattle.meaning.specs.Meaning.{contextAt, onEarlierE, underThisE, editsAt, judgeAt, foundOn, recordsOnto, Outcome, refused, outcomeBy, meaningFrom}
 use Rattle.step.specs.Steps.{Out}
@@ -66,7 +66,7 @@ module _ (one other : Line) (ones others : List Line) (all : AlikeLines (one ∷
   asked (running earlier before hp hq same sums) = asked-by (eqb (idOf one) 0) one other p q earlier before refl (sym zero) hp hq (repeats-split earlier before same .0)
 
   -- An S record that passes stands under an open E, and the run goes on behind it.
-  run-on : phaseAfter p ≡ EOpen → Run p q (one ∷ ones) (other ∷ others)
+  run-on : phaseIn p ≡ EOpen → Run p q (one ∷ ones) (other ∷ others)
       → Run (OfS (record { id = idOf one; wages = wagesOn one }) ∷ p) (OfS (record { id = idOf other; wages = wagesOn other }) ∷ q) ones others
   run-on opened (shut phase sum none none') = absurd (phase opened)
   run-on opened (running earlier before hp hq same sums) =
@@ -203,19 +203,18 @@ module _ (room : Room) (held : Quarter) where
     abbrev told : Phase → List Said → Outcome
     told phase records = outcomeBy (foundOn (length records + 1) (endTest phase)) records
 
-    ends : (records : List Said) → meaningFrom room held records [] ≡ told (phaseAfter records) records
-    ends records = meaning-end room held records ∙ ap (λ (f : Finding). outcomeBy (foundOn (length records + 1) f) records) (end-parts (phaseAfter records))
+    ends : (records : List Said) → meaningFrom room held records [] ≡ told (phaseIn records) records
+    ends records = meaning-end room held records ∙ ap (λ (f : Finding). outcomeBy (foundOn (length records + 1) f) records) (end-parts (phaseIn records))
 
-    told-alike : (phase : Phase) → phaseAfter p ≡ phase → phaseAfter q ≡ phase
-        → (told phase p ≡ told phase q) × (leaves room held p (told phase p) ≡ leaves room held q (told phase q))
-    told-alike BeforeA e f = (rw (level .lines), rw (level .lines))
-    told-alike AfterA e f = (rw (level .lines), rw (level .lines))
-    told-alike EOpen e f = (rw (level .lines), rw (level .lines))
-    told-alike AfterT e f = (rw (level .lines), rw (level .lines))
-    told-alike AfterF e f =
+    told-alike : (phase : Phase) → (told phase p ≡ told phase q) × (leaves room held p (told phase p) ≡ leaves room held q (told phase q))
+    told-alike BeforeA = (rw (level .lines), rw (level .lines))
+    told-alike AfterA = (rw (level .lines), rw (level .lines))
+    told-alike EOpen = (rw (level .lines), rw (level .lines))
+    told-alike AfterT = (rw (level .lines), rw (level .lines))
+    told-alike AfterF =
         let totals = totals-alike p q level sums-end in
         let this = open-alike p q level sums-end in
-        (rw (e, f, level .closed, totals), rw (e, f, level .closed, level .lines, level .filed, level .used, totals, this))
+        (rw (level .entries, totals), rw (level .entries, level .lines, level .filed, level .used, totals, this))
 
     left-end : (records : List Said) (outcome : Outcome) → meaningFrom room held records [] ≡ outcome → left records [] ≡ leaves room held records outcome
     left-end records outcome e =
@@ -223,10 +222,10 @@ module _ (room : Room) (held : Quarter) where
 
     ended : Same p q [] []
     ended =
-        let both = told-alike (phaseAfter q) (level .phase) refl in
+        let both = told-alike (phaseIn q) in
         let first = ends p ∙ ap (λ (phase : Phase). told phase p) (level .phase) in (
           first ∙ both .0 ∙ sym (ends q),
-          left-end p (told (phaseAfter q) p) first ∙ both .1 ∙ sym (left-end q (told (phaseAfter q) q) (ends q)),
+          left-end p (told (phaseIn q) p) first ∙ both .1 ∙ sym (left-end q (told (phaseIn q) q) (ends q)),
         )
 
   -- ---- all lines

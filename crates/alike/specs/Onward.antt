@@ -59,7 +59,7 @@ level-employee p q a b level zero =
       employers = level .employers;
       used = room-alike (idsUnder p) (idsUnder q) (a .id) (b .id) (eqb (a .id) 0) refl (sym zero) (level .used);
       feins = level .feins;
-      closed = level .closed;
+      entries = level .entries;
       sums = omega (arith, level .sums);
     }
 
@@ -74,11 +74,11 @@ Other OfNone = ⊥
 
 module _ (p q : List Said) (level : Level p q) (sum : openIn p .sum ≡ openIn q .sum) where
   sum-other : (said : Said) → Other said → sumOf (said ∷ p) ≡ sumOf (said ∷ q)
-  sum-other (OfA quarter) other = rw (level .lines, totals-alike p q level sum, level .feins, level .closed)
-  sum-other (OfE employer) other = rw (level .lines, level .filed, totals-alike p q level sum, level .feins, level .closed)
+  sum-other (OfA quarter) other = rw (level .lines, totals-alike p q level sum, level .feins, level .entries)
+  sum-other (OfE employer) other = rw (level .lines, level .filed, totals-alike p q level sum, level .feins, level .entries)
   sum-other (OfS employee) other = absurd other
-  sum-other OfT other = rw (level .lines, level .filed, totals-alike p q level sum, level .feins, level .closed, open-alike p q level sum)
-  sum-other OfF other = rw (level .lines, level .filed, totals-alike p q level sum, level .feins, level .closed)
+  sum-other OfT other = rw (level .lines, level .filed, totals-alike p q level sum, level .feins, level .entries, open-alike p q level sum)
+  sum-other OfF other = rw (level .lines, level .filed, totals-alike p q level sum, level .feins, level .entries)
   sum-other OfNone other = absurd other
 
   pub level-other : (said : Said) → Other said → Level (said ∷ p) (said ∷ q)

@@ -1,4 +1,5 @@
--- What the records before a line come to: all that the line is judged by. `p` is always the records before, the nearest first.
+-- What the records before a line come to: all that the line is judged by. `p` is always the records before, the nearest first. For each thing: what one
+-- record makes of it, and then the records one after the other.
 use Prim.Native.Nat.{ℕ, _+_}
 use mathlib.Core.Bool.{false}
 use mathlib.Core.List.{List, [], _∷_, _++_}
@@ -13,30 +14,37 @@ use Rattle.record.specs.declared.said.EmployeeOn.{EmployeeOn}
 use Rattle.record.specs.declared.said.EmployerOn.{EmployerOn}
 use Rattle.record.specs.declared.said.Said.{Said}
 use Rattle.record.specs.declared.said.Said.the-variants.{OfA, OfE, OfS, OfT, OfF, OfNone}
+use Rattle.tables.specs.Tables.{closed}
 use Rattle.tables.specs.declared.Employer.{Employer}
 
 -- Where a line stands: the nearest record tells. (A line of no record is never passed, so what it would leave does not matter.)
-abbrev pub phaseAfter : List Said → Phase
-phaseAfter [] = BeforeA
-phaseAfter (OfA quarter ∷ p) = AfterA
-phaseAfter (OfE employer ∷ p) = EOpen
-phaseAfter (OfS employee ∷ p) = EOpen
-phaseAfter (OfT ∷ p) = AfterT
-phaseAfter (OfF ∷ p) = AfterF
-phaseAfter (OfNone ∷ p) = phaseAfter p
+abbrev pub phaseAfter : Said → Phase → Phase
+phaseAfter (OfA quarter) phase = AfterA
+phaseAfter (OfE employer) phase = EOpen
+phaseAfter (OfS employee) phase = EOpen
+phaseAfter OfT phase = AfterT
+phaseAfter OfF phase = AfterF
+phaseAfter OfNone phase = phase
+
+abbrev pub phaseIn : List Said → Phase
+phaseIn [] = BeforeA
+phaseIn (said ∷ p) = phaseAfter said (phaseIn p)
 
 -- A's quarter.
 abbrev pub noQuarter : Quarter
 noQuarter = record { year = 0; month = 0 }
 
+abbrev pub filedAfter : Said → Quarter → Quarter
+filedAfter (OfA quarter) filed = quarter
+filedAfter (OfE employer) filed = filed
+filedAfter (OfS employee) filed = filed
+filedAfter OfT filed = filed
+filedAfter OfF filed = filed
+filedAfter OfNone filed = filed
+
 abbrev pub filedIn : List Said → Quarter
 filedIn [] = noQuarter
-filedIn (OfA quarter ∷ p) = quarter
-filedIn (OfE employer ∷ p) = filedIn p
-filedIn (OfS employee ∷ p) = filedIn p
-filedIn (OfT ∷ p) = filedIn p
-filedIn (OfF ∷ p) = filedIn p
-filedIn (OfNone ∷ p) = filedIn p
+filedIn (said ∷ p) = filedAfter said (filedIn p)
 
 -- The open E: what it says, and the number and the wages of the S records under it. "The S records under an E are those after it with no
 -- other line between."
@@ -49,27 +57,33 @@ opened employer = record { fein = employer .fein; follow = employer .follow; cou
 abbrev pub withOne : EmployeeOn → Open → Open
 withOne employee this = record { fein = this .fein; follow = this .follow; count = this .count + 1; sum = this .sum + employee .wages }
 
+abbrev pub openAfter : Said → Open → Open
+openAfter (OfA quarter) this = noneOpen
+openAfter (OfE employer) this = opened employer
+openAfter (OfS employee) this = withOne employee this
+openAfter OfT this = noneOpen
+openAfter OfF this = noneOpen
+openAfter OfNone this = noneOpen
+
 abbrev pub openIn : List Said → Open
 openIn [] = noneOpen
-openIn (OfA quarter ∷ p) = noneOpen
-openIn (OfE employer ∷ p) = opened employer
-openIn (OfS employee ∷ p) = withOne employee (openIn p)
-openIn (OfT ∷ p) = noneOpen
-openIn (OfF ∷ p) = noneOpen
-openIn (OfNone ∷ p) = noneOpen
+openIn (said ∷ p) = openAfter said (openIn p)
 
 -- The identity numbers under the open E, in file order; "000000000 means applied for"; "only such numbers take room": others than zero.
 abbrev pub andId : List ℕ → ℕ → List ℕ
 andId ids id = if eqb id 0 then ids else ids ++ (id ∷ [])
 
+abbrev pub idsWith : Said → List ℕ → List ℕ
+idsWith (OfA quarter) ids = []
+idsWith (OfE employer) ids = []
+idsWith (OfS employee) ids = andId ids (employee .id)
+idsWith OfT ids = []
+idsWith OfF ids = []
+idsWith OfNone ids = []
+
 abbrev pub idsUnder : List Said → List ℕ
 idsUnder [] = []
-idsUnder (OfA quarter ∷ p) = []
-idsUnder (OfE employer ∷ p) = []
-idsUnder (OfS employee ∷ p) = andId (idsUnder p) (employee .id)
-idsUnder (OfT ∷ p) = []
-idsUnder (OfF ∷ p) = []
-idsUnder (OfNone ∷ p) = []
+idsUnder (said ∷ p) = idsWith said (idsUnder p)
 
 -- The whole file: its S records, its E records, and the wages of all S records.
 abbrev pub noTotals : Totals
@@ -81,49 +95,46 @@ oneEmployer all = record { count = all .count; employers = all .employers + 1; s
 abbrev pub oneEmployee : EmployeeOn → Totals → Totals
 oneEmployee employee all = record { count = all .count + 1; employers = all .employers; sum = all .sum + employee .wages }
 
+abbrev pub totalsAfter : Said → Totals → Totals
+totalsAfter (OfA quarter) all = all
+totalsAfter (OfE employer) all = oneEmployer all
+totalsAfter (OfS employee) all = oneEmployee employee all
+totalsAfter OfT all = all
+totalsAfter OfF all = all
+totalsAfter OfNone all = all
+
 abbrev pub totalsIn : List Said → Totals
 totalsIn [] = noTotals
-totalsIn (OfA quarter ∷ p) = totalsIn p
-totalsIn (OfE employer ∷ p) = oneEmployer (totalsIn p)
-totalsIn (OfS employee ∷ p) = oneEmployee employee (totalsIn p)
-totalsIn (OfT ∷ p) = totalsIn p
-totalsIn (OfF ∷ p) = totalsIn p
-totalsIn (OfNone ∷ p) = totalsIn p
+totalsIn (said ∷ p) = totalsAfter said (totalsIn p)
 
 -- The FEINs of the E records, in file order.
+abbrev pub feinsWith : Said → List ℕ → List ℕ
+feinsWith (OfA quarter) feins = feins
+feinsWith (OfE employer) feins = feins ++ (employer .fein ∷ [])
+feinsWith (OfS employee) feins = feins
+feinsWith OfT feins = feins
+feinsWith OfF feins = feins
+feinsWith OfNone feins = feins
+
 abbrev pub feinsIn : List Said → List ℕ
 feinsIn [] = []
-feinsIn (OfA quarter ∷ p) = feinsIn p
-feinsIn (OfE employer ∷ p) = feinsIn p ++ (employer .fein ∷ [])
-feinsIn (OfS employee ∷ p) = feinsIn p
-feinsIn (OfT ∷ p) = feinsIn p
-feinsIn (OfF ∷ p) = feinsIn p
-feinsIn (OfNone ∷ p) = feinsIn p
+feinsIn (said ∷ p) = feinsWith said (feinsIn p)
 
--- "An employer's entry gets its FEIN at E, its count and cents (zero till then) at T."
-abbrev pub entryAtE : Open → Employer
-entryAtE this = record { fein = this .fein; count = 0; cents = 0 }
+-- The employer list's entries, in file order. "An employer's entry gets its FEIN at E, its count and cents (zero till then) at T."
+abbrev pub entryAtE : EmployerOn → Employer
+entryAtE employer = record { fein = employer .fein; count = 0; cents = 0 }
 
-abbrev pub entryAtT : Open → Employer
-entryAtT this = record { fein = this .fein; count = this .count; cents = this .sum }
+-- The last entry gets the count and the cents of the open E, and keeps its FEIN.
+abbrev pub closedLast : Open → List Employer → List Employer
+closedLast this [] = []
+closedLast this (entry ∷ []) = closed entry (this .count) (this .sum) ∷ []
+closedLast this (entry ∷ next ∷ entries) = entry ∷ closedLast this (next ∷ entries)
 
--- The entries of the E records that a T has closed, in file order.
-abbrev pub closedIn : List Said → List Employer
-closedIn [] = []
-closedIn (OfA quarter ∷ p) = closedIn p
-closedIn (OfE employer ∷ p) = closedIn p
-closedIn (OfS employee ∷ p) = closedIn p
-closedIn (OfT ∷ p) = closedIn p ++ (entryAtT (openIn p) ∷ [])
-closedIn (OfF ∷ p) = closedIn p
-closedIn (OfNone ∷ p) = closedIn p
-
-abbrev pub ifOpen : Phase → Employer → List Employer
-ifOpen BeforeA entry = []
-ifOpen AfterA entry = []
-ifOpen EOpen entry = entry ∷ []
-ifOpen AfterT entry = []
-ifOpen AfterF entry = []
-
--- The employer list's entries: those that are closed, then the open one.
 abbrev pub entriesIn : List Said → List Employer
-entriesIn p = closedIn p ++ ifOpen (phaseAfter p) (entryAtE (openIn p))
+entriesIn [] = []
+entriesIn (OfA quarter ∷ p) = entriesIn p
+entriesIn (OfE employer ∷ p) = entriesIn p ++ (entryAtE employer ∷ [])
+entriesIn (OfS employee ∷ p) = entriesIn p
+entriesIn (OfT ∷ p) = closedLast (openIn p) (entriesIn p)
+entriesIn (OfF ∷ p) = entriesIn p
+entriesIn (OfNone ∷ p) = entriesIn p

@@ -24,7 +24,8 @@ use Rattle.record.specs.declared.said.Said.{Said}
 use Rattle.record.specs.declared.said.Said.the-variants.{OfA, OfE, OfS, OfT, OfF, OfNone}
 use Rattle.tables.specs.Room.{Room}
 use Rattle.tables.specs.declared.Employer.{Employer}
-use Rattle.meaning.specs.Before.{phaseAfter, opened, withOne, openIn, totalsIn, noTotals, entryAtT, oneEmployer, oneEmployee, closedIn, ifOpen, entriesIn}
+use Rattle.meaning.specs.Before.{phaseIn, opened, withOne, openIn, noTotals, oneEmployer, oneEmployee, totalsIn, entryAtE, closedLast, entriesIn}
+use Rattle.meaning.specs.BeforeLaws.{closed-behind}
 use Rattle.meaning.specs.FileLaws.{records-reversed, meaning-end, meaning-refuses, meaning-goes-on}
 use Rattle.meaning.specs.Forward.{recordsOf, employeesAfter, wagesOf, entryOf, employersOf, employeesOf, totalsOf}
 use Rattle.meaning.specs.Meaning.{contextAt, onEarlierE, underThisE, judgeAt, fileEdits, FileFinding, nothing, found, foundOn, firstOfFile, recordsOnto, accepted, outcomeBy, meaningFrom, meaning}
@@ -42,8 +43,8 @@ InPlace phase OfNone = ⊥
 
 -- The records to come, in file order, stand each in its place behind those before; F is the last.
 abbrev Placed : List Said → List Said → Type 0
-Placed p [] = phaseAfter p ≡ AfterF
-Placed p (said ∷ records) = InPlace (phaseAfter p) said × Placed (said ∷ p) records
+Placed p [] = phaseIn p ≡ AfterF
+Placed p (said ∷ records) = InPlace (phaseIn p) said × Placed (said ∷ p) records
 
 -- The end passes only after F.
 at-end : (phase : Phase) (line : ℕ) (p : List Said) (entries : List Employer) (totals : Totals)
@@ -56,7 +57,7 @@ at-end AfterF line p entries totals e = refl
 
 module _ (room : Room) (held : Quarter) where
   -- A record that passes is in its place.
-  in-place : (p : List Said) (said : Said) → Fits (contextAt room held p) (onEarlierE p) (underThisE p) said → InPlace (phaseAfter p) said
+  in-place : (p : List Said) (said : Said) → Fits (contextAt room held p) (onEarlierE p) (underThisE p) said → InPlace (phaseIn p) said
   in-place p (OfA quarter) fits = fits .0
   in-place p (OfE employer) fits = fits .0
   in-place p (OfS employee) fits = fits .0
@@ -79,7 +80,7 @@ module _ (room : Room) (held : Quarter) where
   all-placed : (p : List Said) (lines : List Line) (entries : List Employer) (totals : Totals)
       → meaningFrom room held p lines ≡ accepted entries totals → Placed p (map recordOn lines)
   all-placed p [] entries totals e =
-      at-end (phaseAfter p) (length p + 1) p entries totals (rw (← end-parts (phaseAfter p)) (sym (meaning-end room held p) ∙ e))
+      at-end (phaseIn p) (length p + 1) p entries totals (rw (← end-parts (phaseIn p)) (sym (meaning-end room held p) ∙ e))
   all-placed p (line ∷ lines) entries totals e =
       let said = recordOn line in
       let told = line-passes p line lines entries totals e in
@@ -87,56 +88,61 @@ module _ (room : Room) (held : Quarter) where
       let left = sym (meaning-goes-on room held p line lines (sizeOf line) said told) ∙ e in
       (in-place p said fits, all-placed (said ∷ p) lines entries totals left)
 
--- The last record is F.
-ends-after-F : (p records : List Said) → Placed p records → phaseAfter (reverseAux records p) ≡ AfterF
-ends-after-F p [] placed = placed
-ends-after-F p (said ∷ records) placed = ends-after-F (said ∷ p) records (placed .1)
-
 -- ---- the employers
--- The entry of the open E, with the S records that are still to come under it.
-abbrev entryWith : Open → List EmployeeOn → Employer
-entryWith this employees =
-    record { fein = this .fein; count = this .count + length employees; cents = this .sum + wagesOf employees }
-
--- Nothing is under an E at first.
-with-none-before : (employer : EmployerOn) (employees : List EmployeeOn) → entryWith (opened employer) employees ≡ entryOf employer employees
-with-none-before employer employees = simp zero-add
+-- The open E with the S records that are still to come under it.
+abbrev withAll : Open → List EmployeeOn → Open
+withAll this employees =
+    record { fein = this .fein; follow = this .follow; count = this .count + length employees; sum = this .sum + wagesOf employees }
 
 -- An S record is counted whether it stands before or is to come.
 with-one-more : (employee : EmployeeOn) (this : Open) (employees : List EmployeeOn)
-    → entryWith (withOne employee this) employees ≡ entryWith this (employee ∷ employees)
+    → withAll (withOne employee this) employees ≡ withAll this (employee ∷ employees)
 with-one-more employee this employees =
     let count : this .count + 1 + length employees ≡ this .count + length (employee ∷ employees) = omega arith in
-    let cents : this .sum + employee .wages + wagesOf employees ≡ this .sum + (employee .wages + wagesOf employees) = omega arith in
+    let sum : this .sum + employee .wages + wagesOf employees ≡ this .sum + (employee .wages + wagesOf employees) = omega arith in
     cc
 
 -- Nothing more is under it at T.
-with-none-left : (this : Open) → entryAtT this ≡ entryWith this []
+with-none-left : (this : Open) → withAll this [] ≡ this
 with-none-left this = simp add-zero
 
--- No E is open where an E stands.
-none-open : (phase : Phase) (entry : Employer) → (phase ≡ AfterA) ⊎ (phase ≡ AfterT) → ifOpen phase entry ≡ []
-none-open phase entry (inl place) = rw place
-none-open phase entry (inr place) = rw place
+-- The entry of an E, closed with all that comes under it.
+closed-with-all : (employer : EmployerOn) (employees : List EmployeeOn) (front : List Employer)
+    → closedLast (withAll (opened employer) employees) (front ++ (entryAtE employer ∷ [])) ≡ front ++ (entryOf employer employees ∷ [])
+closed-with-all employer employees front =
+    closed-behind (withAll (opened employer) employees) front (entryAtE employer) ∙ simp zero-add
 
--- The entries of the records to come: that of the open E, then one for each E.
-abbrev entriesToCome : List Said → List Said → List Employer
-entriesToCome p records = ifOpen (phaseAfter p) (entryWith (openIn p) (employeesAfter records)) ++ employersOf records
+-- The entries before, that of an open E as its T will close it.
+abbrev toBeClosed : Phase → Open → List Employer → List Employer
+toBeClosed BeforeA this entries = entries
+toBeClosed AfterA this entries = entries
+toBeClosed EOpen this entries = closedLast this entries
+toBeClosed AfterT this entries = entries
+toBeClosed AfterF this entries = entries
 
--- What T has closed at the end: what it had closed before, and the entries of the records to come.
-closed-at-end : (p records : List Said) → Placed p records → closedIn (reverseAux records p) ≡ closedIn p ++ entriesToCome p records
-closed-at-end p [] placed = rw placed (sym (append-nil (closedIn p)))
-closed-at-end p (OfA quarter ∷ records) placed = rw (placed .0) (closed-at-end (OfA quarter ∷ p) records (placed .1))
-closed-at-end p (OfE employer ∷ records) placed =
-    rw (none-open (phaseAfter p) (entryWith (openIn p) []) (placed .0), ← with-none-before employer (employeesAfter records))
-    (closed-at-end (OfE employer ∷ p) records (placed .1))
-closed-at-end p (OfS employee ∷ records) placed =
-    rw (placed .0, ← with-one-more employee (openIn p) (employeesAfter records)) (closed-at-end (OfS employee ∷ p) records (placed .1))
-closed-at-end p (OfT ∷ records) placed =
-    rw (placed .0, ← with-none-left (openIn p))
-    (closed-at-end (OfT ∷ p) records (placed .1) ∙ append-snoc (closedIn p) (entryAtT (openIn p)) (employersOf records))
-closed-at-end p (OfF ∷ records) placed = rw (placed .0) (closed-at-end (OfF ∷ p) records (placed .1))
-closed-at-end p (OfNone ∷ records) placed = absurd (placed .0)
+-- Where an E stands no E is open.
+none-open : (phase : Phase) (this : Open) (entries : List Employer) → (phase ≡ AfterA) ⊎ (phase ≡ AfterT) → toBeClosed phase this entries ≡ entries
+none-open phase this entries (inl place) = rw place
+none-open phase this entries (inr place) = rw place
+
+abbrev entriesBefore : List Said → List EmployeeOn → List Employer
+entriesBefore p employees = toBeClosed (phaseIn p) (withAll (openIn p) employees) (entriesIn p)
+
+-- The entries at the end: those before, and one for each E to come.
+entries-at-end : (p records : List Said) → Placed p records → entriesIn (reverseAux records p) ≡ entriesBefore p (employeesAfter records) ++ employersOf records
+entries-at-end p [] placed = rw placed (sym (append-nil (entriesIn p)))
+entries-at-end p (OfA quarter ∷ records) placed = rw (placed .0) (entries-at-end (OfA quarter ∷ p) records (placed .1))
+entries-at-end p (OfE employer ∷ records) placed =
+    let employees = employeesAfter records in
+    rw (none-open (phaseIn p) (withAll (openIn p) []) (entriesIn p) (placed .0))
+    (entries-at-end (OfE employer ∷ p) records (placed .1)
+    ∙ ap (λ (l : List Employer). l ++ employersOf records) (closed-with-all employer employees (entriesIn p))
+    ∙ append-snoc (entriesIn p) (entryOf employer employees) (employersOf records))
+entries-at-end p (OfS employee ∷ records) placed =
+    rw (placed .0, ← with-one-more employee (openIn p) (employeesAfter records)) (entries-at-end (OfS employee ∷ p) records (placed .1))
+entries-at-end p (OfT ∷ records) placed = rw (placed .0, with-none-left (openIn p)) (entries-at-end (OfT ∷ p) records (placed .1))
+entries-at-end p (OfF ∷ records) placed = rw (placed .0) (entries-at-end (OfF ∷ p) records (placed .1))
+entries-at-end p (OfNone ∷ records) placed = absurd (placed .0)
 
 -- ---- the totals
 -- The totals of the records before and of those to come.
@@ -182,16 +188,12 @@ says-so : (f : FileFinding) (p : List Said) (entries : List Employer) (totals : 
 says-so nothing p entries totals e = (cc, cc)
 says-so (found line column number) p entries totals e = absurd (not-refused entries totals (notice number line column) (sym e))
 
--- No E is open behind F.
-entries-at-end : (records : List Said) → Placed [] records → entriesIn (reverseAux records []) ≡ employersOf records
-entries-at-end records placed = rw (ends-after-F [] records placed, append-nil) (closed-at-end [] records placed)
-
 module _ (room : Room) (held : Quarter) (file : List ℕ) (entries : List Employer) (totals : Totals) where
   -- "Then the employers reported are those of its E records, the counts and wage totals those of the S records under each."
   pub employers-are : meaning room held file ≡ accepted entries totals → (entries ≡ employersOf (recordsOf file)) × (totals ≡ totalsOf (recordsOf file))
   employers-are e =
       let said = says-so (firstOfFile (fileEdits room held file)) (recordsOnto [] (linesOf file)) entries totals e in
       let turned = records-reversed [] (linesOf file) in (
-        said .0 ∙ ap entriesIn turned ∙ entries-at-end (recordsOf file) (all-placed room held [] (linesOf file) entries totals e),
+        said .0 ∙ ap entriesIn turned ∙ entries-at-end [] (recordsOf file) (all-placed room held [] (linesOf file) entries totals e),
         said .1 ∙ ap totalsIn turned ∙ totals-at-end [] (recordsOf file) ∙ none-together (totalsOf (recordsOf file)),
       )

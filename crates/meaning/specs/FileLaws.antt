@@ -15,7 +15,7 @@ use Rattle.record.specs.Place.{endEdits}
 use Rattle.record.specs.Theorems.{not-passed}
 use Rattle.record.specs.declared.said.Said.{Said}
 use Rattle.tables.specs.Room.{Room}
-use Rattle.meaning.specs.Before.{phaseAfter}
+use Rattle.meaning.specs.Before.{phaseIn}
 use Rattle.meaning.specs.Meaning.{contextAt, onEarlierE, underThisE, editsAt, judgeAt, LineEdit, onLine, editsFrom, FileFinding, nothing, found, foundOn, orFound, firstOfFile, recordsOnto, outcomeBy, refused, meaningFrom}
 
 -- ---- the first broken edit
@@ -63,9 +63,9 @@ records-reversed p (line ∷ lines) = records-reversed (recordOn line ∷ p) lin
 module _ (room : Room) (held : Quarter) (p : List Said) where
   -- ---- the end
   -- The end's edits are all that is left.
-  pub meaning-end : meaningFrom room held p [] ≡ outcomeBy (foundOn (length p + 1) (firstBroken (endEdits (phaseAfter p)))) p
+  pub meaning-end : meaningFrom room held p [] ≡ outcomeBy (foundOn (length p + 1) (firstBroken (endEdits (phaseIn p)))) p
   unfolding editsFrom recordsOnto
-  meaning-end = ap (λ (f : FileFinding). outcomeBy f p) (first-alone (length p + 1) (endEdits (phaseAfter p)))
+  meaning-end = ap (λ (f : FileFinding). outcomeBy f p) (first-alone (length p + 1) (endEdits (phaseIn p)))
 
   -- ---- a line, then the others
   module _ (line : Line) (lines : List Line) where

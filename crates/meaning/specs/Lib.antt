@@ -1,4 +1,5 @@
 pub mod Before
+pub mod BeforeLaws
 pub mod Meaning
 pub mod Forward
 pub mod FileLaws

@@ -17,13 +17,13 @@ use Rattle.record.specs.declared.said.Said.{Said}
 use Rattle.tables.specs.Tables.{isAmong}
 use Rattle.tables.specs.Room.{Room, entriesUsed}
 use Rattle.tables.specs.declared.Employer.{Employer}
-use Rattle.meaning.specs.Before.{phaseAfter, filedIn, openIn, idsUnder, totalsIn, feinsIn, entriesIn}
+use Rattle.meaning.specs.Before.{phaseIn, filedIn, openIn, idsUnder, totalsIn, feinsIn, entriesIn}
 
 -- The context of a line: the records before it, the last closed quarter, and the room that is lent.
 abbrev pub contextAt : Room → Quarter → List Said → Context
 contextAt room held p =
     record {
-      phase = phaseAfter p;
+      phase = phaseIn p;
       held = held;
       filed = filedIn p;
       «open» = openIn p;
@@ -58,7 +58,7 @@ onLine line (edit ∷ edits) = record { line = line; edit = edit } ∷ onLine li
 
 -- "Lines in file order", each with its edits by the records before it; then the input's end, "Line is lines read + 1".
 unfoldable pub editsFrom : Room → Quarter → List Said → List Line → List LineEdit
-editsFrom room held p [] = onLine (length p + 1) (endEdits (phaseAfter p))
+editsFrom room held p [] = onLine (length p + 1) (endEdits (phaseIn p))
 editsFrom room held p (line ∷ lines) = onLine (length p + 1) (editsAt room held p line) ++ editsFrom room held (recordOn line ∷ p) lines
 
 -- All edits of a file in the stated order.

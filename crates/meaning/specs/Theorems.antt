@@ -16,7 +16,7 @@ use Rattle.record.specs.Labelled.{line-labelled, end-labelled}
 use Rattle.record.specs.declared.said.Said.{Said}
 use Rattle.tables.specs.Room.{Room}
 use Rattle.tables.specs.declared.Employer.{Employer}
-use Rattle.meaning.specs.Before.{phaseAfter, totalsIn, entriesIn}
+use Rattle.meaning.specs.Before.{phaseIn, totalsIn, entriesIn}
 use Rattle.meaning.specs.Meaning.{contextAt, editsAt, LineEdit, onLine, editsFrom, fileEdits, FileFinding, nothing, found, foundOn, orFound, firstOfFile, recordsOnto, accepted, refused, outcomeBy, meaning}
 
 -- ---- a list with none broken
@@ -62,7 +62,7 @@ off-line line (edit ∷ edits) rest = ap (λ (l : List Edit). edit ∷ l) (off-l
 -- What any edit of a file finds is told by its label.
 file-labelled : (room : Room) (held : Quarter) (p : List Said) (lines : List Line) → AllLabelled (withoutLines (editsFrom room held p lines))
 unfolding editsFrom
-file-labelled room held p [] = end-labelled (phaseAfter p)
+file-labelled room held p [] = end-labelled (phaseIn p)
 file-labelled room held p (line ∷ lines) =
     let these = editsAt room held p line in
     let rest = editsFrom room held (recordOn line ∷ p) lines in

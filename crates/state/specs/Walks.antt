@@ -4,7 +4,7 @@ use Rattle.reason.specs.Numbers.{Notice, noticeOf}
 use Rattle.calendar.specs.declared.Quarter.{Quarter}
 use Rattle.edits.specs.declared.Open.{Open}
 use Rattle.edits.specs.declared.Phase.{Phase}
-use Rattle.edits.specs.declared.Phase.the-variants.{BeforeA}
+use Rattle.edits.specs.declared.Phase.the-variants.{BeforeA, AfterF}
 use Rattle.edits.specs.declared.Totals.{Totals}
 use Rattle.meaning.specs.Before.{noQuarter, noneOpen, noTotals}
 use Rattle.state.specs.declared.Stage.{Stage}
@@ -29,6 +29,12 @@ pub record Walk : Type 0 where
   pub all : Totals
   -- ids in use
   pub used : ℕ
+
+-- The phase that the next record meets. No record meets an accepted or a refused walk.
+abbrev pub phaseOf : Standing → Phase
+phaseOf (reading phase) = phase
+phaseOf accepted = AfterF
+phaseOf (refused notice) = BeforeA
 
 abbrev pub standingOf : Stage → Standing
 standingOf (Reading phase) = reading phase

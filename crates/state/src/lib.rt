@@ -9,7 +9,7 @@ use reason::Refusal;
 ghost use mathlib.Core.Path.{_≡_};
 ghost use Rattle.reason.specs.Numbers.{noticeOf};
 ghost use Rattle.meaning.specs.Before.{noQuarter, noneOpen, noTotals};
-ghost use Rattle.state.specs.Walks.{walkOf, openedWalk, refusedWalk};
+ghost use Rattle.state.specs.Walks.{phaseOf, standingOf, walkOf, openedWalk, refusedWalk};
 
 // Where a walk stands: among the records of the file; at its accepted end; or refused, with the place and the reason.
 pub enum Stage {
@@ -29,6 +29,17 @@ pub struct State {
     pub all: Totals,
     // Ids in use: so many entries of the id table are the open E's.
     pub used: usize,
+}
+
+// The phase that the next record meets; no record meets an accepted or a refused walk.
+pub fn phase_of(stage: Stage) -> Phase
+    ensures { λ r. ⌜ r ≡ phaseOf (standingOf stage) ⌝ }
+{
+    match stage {
+        Stage::Reading(phase) => phase,
+        Stage::Accepted => Phase::AfterF,
+        Stage::Refused(_) => Phase::BeforeA,
+    }
 }
 
 pub fn no_quarter() -> Quarter

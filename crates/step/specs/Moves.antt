@@ -13,7 +13,6 @@ use Rattle.edits.specs.Edit.{firstBroken}
 use Rattle.edits.specs.declared.Context.{Context}
 use Rattle.edits.specs.declared.Open.{Open}
 use Rattle.edits.specs.declared.Phase.{Phase}
-use Rattle.edits.specs.declared.Phase.the-variants.{AfterA, EOpen, AfterT, AfterF}
 use Rattle.edits.specs.declared.Seen.{Seen}
 use Rattle.edits.specs.declared.Totals.{Totals}
 use Rattle.record.specs.Judge.{Judged, refusal, passed, judge, seenOn}
@@ -21,9 +20,9 @@ use Rattle.record.specs.Place.{endEdits}
 use Rattle.record.specs.declared.said.Said.{Said}
 use Rattle.record.specs.declared.said.Said.the-variants.{OfA, OfE, OfS, OfT, OfF, OfNone}
 use Rattle.tables.specs.Room.{Room, entriesUsed}
-use Rattle.meaning.specs.Before.{noneOpen, opened, withOne, oneEmployer, oneEmployee}
+use Rattle.meaning.specs.Before.{phaseAfter, filedAfter, openAfter, totalsAfter}
 use Rattle.state.specs.Unfit.{unfit}
-use Rattle.state.specs.Walks.{Standing, reading, accepted, refused, Walk, walkOf, openedWalk, refusedWalk}
+use Rattle.state.specs.Walks.{Standing, reading, accepted, refused, Walk, phaseOf, walkOf, openedWalk, refusedWalk}
 use Rattle.step.specs.declared.Change.{Change}
 use Rattle.step.specs.declared.Change.the-variants.{Nothing, Clear, Opens, Adds, Closes}
 use Rattle.step.specs.declared.Move.{Move}
@@ -97,14 +96,19 @@ after walk phase filed this all used =
 abbrev pub oneUsed : ℕ → ℕ → ℕ
 oneUsed used id = if eqb id 0 then used else used + 1
 
+-- How many ids are in use: an S adds its own, and every other record leaves none.
+abbrev pub usedAfter : Said → ℕ → ℕ
+usedAfter (OfA quarter) used = 0
+usedAfter (OfE employer) used = 0
+usedAfter (OfS employee) used = oneUsed used (employee .id)
+usedAfter OfT used = 0
+usedAfter OfF used = 0
+usedAfter OfNone used = 0
+
 abbrev pub walkAfter : Said → Walk → Walk
-walkAfter (OfA quarter) walk = after walk AfterA quarter noneOpen (walk .all) 0
-walkAfter (OfE employer) walk = after walk EOpen (walk .filed) (opened employer) (oneEmployer (walk .all)) 0
-walkAfter (OfS employee) walk =
-    after walk EOpen (walk .filed) (withOne employee (walk .open)) (oneEmployee employee (walk .all)) (oneUsed (walk .used) (employee .id))
-walkAfter OfT walk = after walk AfterT (walk .filed) noneOpen (walk .all) 0
-walkAfter OfF walk = after walk AfterF (walk .filed) noneOpen (walk .all) 0
-walkAfter OfNone walk = walk
+walkAfter said walk =
+    after walk (phaseAfter said (phaseOf (walk .standing))) (filedAfter said (walk .filed)) (openAfter said (walk .open))
+    (totalsAfter said (walk .all)) (usedAfter said (walk .used))
 
 -- What it writes: an E its FEIN behind the entries so far; an S its identity number behind those in use; a T the count and cents of the last entry, and
 -- the ids in use become zeros.

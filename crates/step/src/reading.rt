@@ -148,6 +148,18 @@ fn last(st: State, taken: usize) -> Move
     moves(next, taken, Change::Nothing)
 }
 
+// A line of no record. It never passes.
+fn no_record(st: State, taken: usize) -> Move
+    requires { ⌜ Ready (walkOf st) Said.OfNone ⌝ }
+    ensures { λ r. ⌜ movedBy r ≡ goesOn (walkOf st) taken Said.OfNone ⌝ }
+{
+    let none = state::none_open();
+    let stage = st.stage;
+    let phase = state::phase_of(stage);
+    let next = after(st, phase, st.filed, none, st.all, 0);
+    moves(next, taken, Change::Nothing)
+}
+
 // The record says what it says: the walk goes on behind its line.
 fn go_on(st: State, taken: usize, said: Said) -> Move
     requires { ⌜ Ready (walkOf st) said ⌝ }
@@ -159,7 +171,7 @@ fn go_on(st: State, taken: usize, said: Said) -> Move
         Said::OfS(s) => employee(st, taken, s),
         Said::OfT => total(st, taken),
         Said::OfF => last(st, taken),
-        Said::OfNone => moves(st, taken, Change::Nothing),
+        Said::OfNone => no_record(st, taken),
     }
 }
 

@@ -13,8 +13,8 @@ use Rattle.record.specs.Place.{mostEmployees}
 use Rattle.record.specs.declared.said.Said.{Said}
 use Rattle.tables.specs.Pad.{pad}
 use Rattle.tables.specs.Room.{Room, Tables, tables, entriesUsed}
-use Rattle.tables.specs.Tables.{noEmployer, feinsOf}
-use Rattle.meaning.specs.Before.{phaseAfter, filedIn, openIn, idsUnder, totalsIn, feinsIn, closedIn, entriesIn}
+use Rattle.tables.specs.Tables.{noEmployer}
+use Rattle.meaning.specs.Before.{phaseIn, filedIn, openIn, idsUnder, totalsIn, entriesIn}
 use Rattle.state.specs.Unfit.{mostWages, mostFein}
 use Rattle.state.specs.Walks.{Standing, reading, accepted, Walk}
 
@@ -33,7 +33,7 @@ walkIn standing held p =
 
 -- The state after these records, and at the accepted end behind them.
 abbrev pub walkAt : Quarter → List Said → Walk
-walkAt held p = walkIn (reading (phaseAfter p)) held p
+walkAt held p = walkIn (reading (phaseIn p)) held p
 
 abbrev pub acceptedAt : Quarter → List Said → Walk
 acceptedAt held p = walkIn accepted held p
@@ -43,13 +43,20 @@ acceptedAt held p = walkIn accepted held p
 abbrev pub tablesAt : Room → List Said → Tables
 tablesAt room p = tables (pad 0 (room .ids) (idsUnder p)) (pad noEmployer (room .list) (entriesIn p))
 
--- How many A records, and how many F records, a phase tells of.
+-- How many A records, open E records and F records a phase tells of.
 abbrev pub begun : Phase → ℕ
 begun BeforeA = 0
 begun AfterA = 1
 begun EOpen = 1
 begun AfterT = 1
 begun AfterF = 1
+
+abbrev pub opens : Phase → ℕ
+opens BeforeA = 0
+opens AfterA = 0
+opens EOpen = 1
+opens AfterT = 0
+opens AfterF = 0
 
 abbrev pub done : Phase → ℕ
 done BeforeA = 0
@@ -62,12 +69,12 @@ done AfterF = 1
 pub record Good (room : Room) (held : Quarter) (p : List Said) : Type 0 where
   pub ids-fit : length (idsUnder p) ≤ room .ids
   pub list-fit : totalsIn p .employers ≤ entriesUsed room
-  pub entries : length (entriesIn p) ≡ totalsIn p .employers
-  pub feins : feinsOf (entriesIn p) ≡ feinsIn p
+  pub some : opens (phaseIn p) ≤ totalsIn p .employers
   pub many : totalsIn p .count ≤ mostEmployees
   pub sum : totalsIn p .sum ≤ totalsIn p .count * mostWages
   pub under : openIn p .count ≤ totalsIn p .count
   pub under-sum : openIn p .sum ≤ openIn p .count * mostWages
   pub fein : openIn p .fein ≤ mostFein
-  pub quarter : (phaseAfter p ≡ BeforeA) ⊎ (isReportable held (filedIn p) ≡ true)
-  pub lines : length p ≡ begun (phaseAfter p) + totalsIn p .employers + length (closedIn p) + totalsIn p .count + done (phaseAfter p)
+  pub quarter : (phaseIn p ≡ BeforeA) ⊎ (isReportable held (filedIn p) ≡ true)
+  -- Each E has at most one T, and an open one none yet.
+  pub lines : length p + opens (phaseIn p) ≤ begun (phaseIn p) + (totalsIn p .employers + totalsIn p .employers) + totalsIn p .count + done (phaseIn p)

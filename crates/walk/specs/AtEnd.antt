@@ -20,7 +20,7 @@ use Rattle.record.specs.PlaceTables.{endTest, end-parts}
 use Rattle.record.specs.declared.said.Said.{Said}
 use Rattle.tables.specs.Room.{Room}
 use Rattle.tables.specs.declared.Employer.{Employer}
-use Rattle.meaning.specs.Before.{phaseAfter}
+use Rattle.meaning.specs.Before.{phaseIn}
 use Rattle.meaning.specs.FileLaws.{onto-nil, onto-cons, meaning-end, meaning-refuses, meaning-goes-on}
 use Rattle.meaning.specs.Meaning.{contextAt, onEarlierE, underThisE, judgeAt, foundOn, recordsOnto, accepted, refused, outcomeBy, meaningFrom}
 use Rattle.meaning.specs.Theorems.{not-refused}
@@ -31,10 +31,10 @@ use Rattle.walk.specs.Means.{taken-good}
 
 module _ (room : Room) (held : Quarter) (allowed : isAllowed held ≡ true) (entries : List Employer) (totals : Totals) where
   abbrev TakenAll : List Said → Type 0
-  TakenAll p = Good room held p × (phaseAfter p ≡ AfterF)
+  TakenAll p = Good room held p × (phaseIn p ≡ AfterF)
 
   -- The input ends after F.
-  last-phase : (p : List Said) (phase : Phase) → phaseAfter p ≡ phase → outcomeBy (foundOn (length p + 1) (endTest phase)) p ≡ accepted entries totals → phaseAfter p ≡ AfterF
+  last-phase : (p : List Said) (phase : Phase) → phaseIn p ≡ phase → outcomeBy (foundOn (length p + 1) (endTest phase)) p ≡ accepted entries totals → phaseIn p ≡ AfterF
   last-phase p BeforeA e ends = absurd (not-refused entries totals _ (sym ends))
   last-phase p AfterA e ends = absurd (not-refused entries totals _ (sym ends))
   last-phase p EOpen e ends = absurd (not-refused entries totals _ (sym ends))
@@ -43,8 +43,8 @@ module _ (room : Room) (held : Quarter) (allowed : isAllowed held ≡ true) (ent
 
   pub all-taken : (lines : List Line) (p : List Said) → Good room held p → meaningFrom room held p lines ≡ accepted entries totals → TakenAll (recordsOnto p lines)
   all-taken [] p g ends =
-      let by = sym (meaning-end room held p ∙ ap (λ (f : Finding). outcomeBy (foundOn (length p + 1) f) p) (end-parts (phaseAfter p))) ∙ ends in
-      subst TakenAll (sym (onto-nil p)) (g, last-phase p (phaseAfter p) refl by)
+      let by = sym (meaning-end room held p ∙ ap (λ (f : Finding). outcomeBy (foundOn (length p + 1) f) p) (end-parts (phaseIn p))) ∙ ends in
+      subst TakenAll (sym (onto-nil p)) (g, last-phase p (phaseIn p) refl by)
   all-taken (line ∷ lines) p g ends = by (judgeAt room held p line) refl (all-taken lines) where
     by : (v : Judged) → judgeAt room held p line ≡ v
         → ((q : List Said) → Good room held q → meaningFrom room held q lines ≡ accepted entries totals → TakenAll (recordsOnto q lines))
@@ -72,7 +72,7 @@ module _ (room : Room) (held : Quarter) (says : Notice) where
 
   pub refused-numbered : (lines : List Line) (p : List Said) → meaningFrom room held p lines ≡ refused says → Numbered (says .number)
   refused-numbered [] p ends =
-      end-numbered p (phaseAfter p) (sym (meaning-end room held p ∙ ap (λ (f : Finding). outcomeBy (foundOn (length p + 1) f) p) (end-parts (phaseAfter p))) ∙ ends)
+      end-numbered p (phaseIn p) (sym (meaning-end room held p ∙ ap (λ (f : Finding). outcomeBy (foundOn (length p + 1) f) p) (end-parts (phaseIn p))) ∙ ends)
   refused-numbered (line ∷ lines) p ends = by (judgeAt room held p line) refl (refused-numbered lines) where
     by : (v : Judged) → judgeAt room held p line ≡ v → ((q : List Said) → meaningFrom room held q lines ≡ refused says → Numbered (says .number))
         → Numbered (says .number)

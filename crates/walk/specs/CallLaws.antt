@@ -6,7 +6,7 @@ use mathlib.Core.List.{List}
 use mathlib.Core.Logic.{_⊎_, inl, inr}
 use mathlib.Core.Path.{_≡_, refl, ap, _∙_}
 use native.Mathlib.Omega.{arith}
-use lib.ListN.{length, take, length-append}
+use lib.ListN.{length, take}
 use Rattle.calendar.specs.Quarters.{isAllowed, isReportable}
 use Rattle.calendar.specs.declared.Quarter.{Quarter}
 use Rattle.chars.specs.Characters.{capitals}
@@ -21,7 +21,7 @@ use Rattle.record.specs.Place.{endEdits}
 use Rattle.record.specs.declared.said.Said.{Said}
 use Rattle.tables.specs.Room.{Room, Tables, roomOf, entriesUsed}
 use Rattle.tables.specs.Tables.{isAmong}
-use Rattle.meaning.specs.Before.{phaseAfter, filedIn, openIn, totalsIn, entryAtE, closedIn, entriesIn}
+use Rattle.meaning.specs.Before.{phaseIn, filedIn, totalsIn}
 use Rattle.meaning.specs.Meaning.{onEarlierE, underThisE, judgeAt}
 use Rattle.state.specs.Unfit.{isOpen, standingUnfit, unfit}
 use Rattle.state.specs.UnfitLaws.{FileSound, sound-fit}
@@ -30,7 +30,6 @@ use Rattle.step.specs.MoveLaws.{line-alike, line-fit, end-fit}
 use Rattle.step.specs.Moves.{Moved, byVerdict, byStanding, lineMoved, endVerdict, endMoved}
 use Rattle.step.specs.Steps.{carried, listedFein, listedId, lineStep, endStep}
 use Rattle.walk.specs.At.{walkAt, tablesAt, begun, done, Good}
-use Rattle.walk.specs.GoodLaws.{length-snoc, entries-open}
 use Rattle.walk.specs.StepLaws.{room-at, feins-listed, ids-listed}
 
 -- ---- the law of one call behind every lending
@@ -78,20 +77,17 @@ counts-small AfterT = (omega arith, omega arith)
 counts-small AfterF = (omega arith, omega arith)
 
 module _ (room : Room) (held : Quarter) (p : List Said) (g : Good room held p) (allowed : isAllowed held ≡ true) where
-  closed-few : length (closedIn p) ≤ length (entriesIn p)
-  closed-few = rw (length-append (closedIn p) _) (omega arith)
-
   pub file-sound-at : FileSound (entriesUsed room) (totalsIn p) (length p)
   file-sound-at =
       record {
         employers = g .list-fit;
         many = g .many;
         sum = g .sum;
-        lines-read = omega (arith, g, closed-few, counts-small (phaseAfter p));
+        lines-read = omega (arith, g, counts-small (phaseIn p));
       }
 
-  some-employer : phaseAfter p ≡ EOpen → 1 ≤ totalsIn p .employers
-  some-employer e = omega (arith, g .entries, ap length (entries-open p e), length-snoc (closedIn p) (entryAtE (openIn p)))
+  some-employer : phaseIn p ≡ EOpen → 1 ≤ totalsIn p .employers
+  some-employer e = rw e at (g .some)
 
   pub fit-at : unfit room (walkAt held p) ≡ false
   fit-at =
@@ -100,13 +96,13 @@ module _ (room : Room) (held : Quarter) (p : List Said) (g : Good room held p) (
         ids-fit = g .ids-fit;
         under = g .under;
         under-sum = g .under-sum;
-        some = some-employer (is-open (phaseAfter p) e);
+        some = some-employer (is-open (phaseIn p) e);
         fein = g .fein;
       })
-      (quarters-fit (phaseAfter p) held (filedIn p) allowed (g .quarter))
+      (quarters-fit (phaseIn p) held (filedIn p) allowed (g .quarter))
 
   fit-line : (line : Line) → lineMoved room (onEarlierE p) (underThisE p) (walkAt held p) line ≡ byVerdict (walkAt held p) (judgeAt room held p line)
-  fit-line line = line-fit room (walkAt held p) _ line (reading (phaseAfter p)) fit-at refl
+  fit-line line = line-fit room (walkAt held p) _ line (reading (phaseIn p)) fit-at refl
 
   -- The tables tell a line what the records before it tell.
   moved-at : (line : Line) → lineMoved (roomOf (tablesAt room p)) (listedFein (walkAt held p) (tablesAt room p)) (listedId (walkAt held p) (tablesAt room p)) (walkAt held p) line
@@ -123,9 +119,9 @@ module _ (room : Room) (held : Quarter) (p : List Said) (g : Good room held p) (
   pub line-at : (line : Line) → lineStep (walkAt held p) line (tablesAt room p) ≡ carried (byVerdict (walkAt held p) (judgeAt room held p line)) (tablesAt room p)
   line-at line = ap (λ (moved : Moved). carried moved (tablesAt room p)) (moved-at line)
 
-  ended-at : endMoved (roomOf (tablesAt room p)) (walkAt held p) ≡ endVerdict (walkAt held p) (firstBroken (endEdits (phaseAfter p)))
+  ended-at : endMoved (roomOf (tablesAt room p)) (walkAt held p) ≡ endVerdict (walkAt held p) (firstBroken (endEdits (phaseIn p)))
   ended-at =
-      ap (λ (r : Room). endMoved r (walkAt held p)) (room-at room held p g) ∙ end-fit room (walkAt held p) (reading (phaseAfter p)) fit-at refl
+      ap (λ (r : Room). endMoved r (walkAt held p)) (room-at room held p g) ∙ end-fit room (walkAt held p) (reading (phaseIn p)) fit-at refl
 
-  pub end-at : endStep (walkAt held p) (tablesAt room p) ≡ carried (endVerdict (walkAt held p) (firstBroken (endEdits (phaseAfter p)))) (tablesAt room p)
+  pub end-at : endStep (walkAt held p) (tablesAt room p) ≡ carried (endVerdict (walkAt held p) (firstBroken (endEdits (phaseIn p)))) (tablesAt room p)
   end-at = ap (λ (moved : Moved). carried moved (tablesAt room p)) ended-at

@@ -1,7 +1,7 @@
 -- Records that were taken stay good with one record more: nothing exceeds its bound, so no sum wraps and no state becomes unfit.
 use Prim.Native.Nat.{ℕ, _+_, _≤_, _<_}
 use mathlib.Core.Bool.{Bool, true, false}
-use mathlib.Core.List.{List, [], _∷_, _++_, append-nil}
+use mathlib.Core.List.{List, [], _∷_, _++_}
 use mathlib.Core.Logic.{_⊎_, inl, inr}
 use mathlib.Core.Path.{_≡_, refl, sym, ap, _∙_}
 use native.Mathlib.Omega.{arith}
@@ -18,42 +18,32 @@ use Rattle.record.specs.declared.said.EmployeeOn.{EmployeeOn}
 use Rattle.record.specs.declared.said.EmployerOn.{EmployerOn}
 use Rattle.record.specs.declared.said.Said.{Said}
 use Rattle.record.specs.declared.said.Said.the-variants.{OfA, OfE, OfS, OfT, OfF, OfNone}
-use Rattle.tables.specs.Laws.{feins-append}
 use Rattle.tables.specs.Room.{Room, entriesUsed}
-use Rattle.tables.specs.Tables.{feinsOf}
-use Rattle.meaning.specs.Before.{phaseAfter, filedIn, openIn, andId, idsUnder, totalsIn, entryAtE, entryAtT, closedIn, ifOpen, entriesIn}
+use Rattle.meaning.specs.Before.{phaseIn, filedIn, andId, idsUnder, totalsIn}
 use Rattle.meaning.specs.Meaning.{contextAt, onEarlierE, underThisE}
 use Rattle.walk.specs.At.{begun, done, Good}
 
 pub length-snoc : {A : Type 0} (l : List A) (x : A) → length (l ++ (x ∷ [])) ≡ length l + 1
 length-snoc l x = length-append l (x ∷ [])
 
--- No E is open: the entries are those that are closed, and no ids are kept.
-pub entries-closed : (p : List Said) (phase : Phase) → phaseAfter p ≡ phase → ifOpen phase (entryAtE (openIn p)) ≡ [] → entriesIn p ≡ closedIn p
-entries-closed p phase e none = rw (e, none) (append-nil (closedIn p))
-
-pub entries-open : (p : List Said) → phaseAfter p ≡ EOpen → entriesIn p ≡ closedIn p ++ (entryAtE (openIn p) ∷ [])
-entries-open p e = rw e
-
 pub good-none : (room : Room) (held : Quarter) → Good room held []
 good-none room held =
     record {
       ids-fit = omega arith;
       list-fit = omega arith;
-      entries = refl;
-      feins = refl;
+      some = omega arith;
       many = omega arith;
       sum = omega arith;
       under = omega arith;
       under-sum = omega arith;
       fein = omega arith;
       quarter = inl refl;
-      lines = refl;
+      lines = omega arith;
     }
 
 -- A later phase than BeforeA leaves A's quarter reportable.
-pub still-reportable : (held : Quarter) (p : List Said) (phase : Phase) → phaseAfter p ≡ phase → begun phase ≡ 1
-    → (phaseAfter p ≡ BeforeA) ⊎ (isReportable held (filedIn p) ≡ true) → isReportable held (filedIn p) ≡ true
+pub still-reportable : (held : Quarter) (p : List Said) (phase : Phase) → phaseIn p ≡ phase → begun phase ≡ 1
+    → (phaseIn p ≡ BeforeA) ⊎ (isReportable held (filedIn p) ≡ true) → isReportable held (filedIn p) ≡ true
 still-reportable held p phase e later (inl before) =
     let z : begun BeforeA ≡ 1 = ap begun (sym before ∙ e) ∙ later in
     absurd (omega arith)
@@ -67,42 +57,22 @@ ids-grow ids id room fits (inr less) = at (eqb id 0) where
   at true = fits
   at false = rw length-snoc (omega arith)
 
--- What each record makes of the entries, from where it may stand.
-pub entries-a : (p : List Said) (quarter : Quarter) → phaseAfter p ≡ BeforeA → entriesIn (OfA quarter ∷ p) ≡ entriesIn p
-entries-a p quarter e = append-nil (closedIn p) ∙ sym (entries-closed p BeforeA e refl)
-
-pub entries-e : (p : List Said) (e : EmployerOn) → (phaseAfter p ≡ AfterA) ⊎ (phaseAfter p ≡ AfterT)
-    → entriesIn (OfE e ∷ p) ≡ entriesIn p ++ (record { fein = e .fein; count = 0; cents = 0 } ∷ [])
-entries-e p e (inl a) = rw (entries-closed p AfterA a refl)
-entries-e p e (inr t) = rw (entries-closed p AfterT t refl)
-
-pub entries-s : (p : List Said) (s : EmployeeOn) → phaseAfter p ≡ EOpen → entriesIn (OfS s ∷ p) ≡ entriesIn p
-entries-s p s e = sym (entries-open p e)
-
-pub entries-t : (p : List Said) → entriesIn (OfT ∷ p) ≡ closedIn p ++ (entryAtT (openIn p) ∷ [])
-entries-t p = append-nil (closedIn (OfT ∷ p))
-
-pub entries-f : (p : List Said) → phaseAfter p ≡ AfterT → entriesIn (OfF ∷ p) ≡ entriesIn p
-entries-f p e = append-nil (closedIn p) ∙ sym (entries-closed p AfterT e refl)
-
 -- E stands where no E is open, after A.
-e-place : (p : List Said) → (phaseAfter p ≡ AfterA) ⊎ (phaseAfter p ≡ AfterT) → (begun (phaseAfter p) ≡ 1) × (done (phaseAfter p) ≡ 0)
+e-place : (p : List Said) → (phaseIn p ≡ AfterA) ⊎ (phaseIn p ≡ AfterT) → (begun (phaseIn p) ≡ 1) × (done (phaseIn p) ≡ 0)
 e-place p (inl a) = (rw a, rw a)
 e-place p (inr t) = (rw t, rw t)
 
 module _ (room : Room) (held : Quarter) (p : List Said) (g : Good room held p) where
-  reportable-after : (phase : Phase) → phaseAfter p ≡ phase → begun phase ≡ 1 → isReportable held (filedIn p) ≡ true
+  reportable-after : (phase : Phase) → phaseIn p ≡ phase → begun phase ≡ 1 → isReportable held (filedIn p) ≡ true
   reportable-after phase e later = still-reportable held p phase e later (g .quarter)
 
   good-a : (quarter : Quarter) → Fits (contextAt room held p) (onEarlierE p) (underThisE p) (OfA quarter) → Good room held (OfA quarter ∷ p)
   good-a quarter fits =
-      let same = entries-a p quarter (fits .0) in
       let lines = rw (fits .0) at (g .lines) in
       record {
         ids-fit = omega arith;
         list-fit = g .list-fit;
-        entries = ap length same ∙ g .entries;
-        feins = ap feinsOf same ∙ g .feins;
+        some = omega arith;
         many = g .many;
         sum = g .sum;
         under = omega arith;
@@ -114,32 +84,28 @@ module _ (room : Room) (held : Quarter) (p : List Said) (g : Good room held p) w
 
   good-e : (e : EmployerOn) → Fits (contextAt room held p) (onEarlierE p) (underThisE p) (OfE e) → e .fein < 1000000000 → Good room held (OfE e ∷ p)
   good-e e fits small =
-      let more = entries-e p e (fits .0) in
       let place = e-place p (fits .0) in
       let less : totalsIn p .employers < entriesUsed room = leb-false (entriesUsed room) (totalsIn p .employers) (fits .1) in
       record {
         ids-fit = omega arith;
         list-fit = omega (arith, less);
-        entries = ap length more ∙ length-snoc (entriesIn p) _ ∙ ap (λ (n : ℕ). n + 1) (g .entries);
-        feins = ap feinsOf more ∙ feins-append (entriesIn p) _ ∙ ap (λ (l : List ℕ). l ++ (e .fein ∷ [])) (g .feins);
+        some = omega arith;
         many = g .many;
         sum = g .sum;
         under = omega arith;
         under-sum = omega arith;
         fein = omega arith;
-        quarter = inr (still-reportable held p (phaseAfter p) refl (place .0) (g .quarter));
+        quarter = inr (still-reportable held p (phaseIn p) refl (place .0) (g .quarter));
         lines = omega (arith, g .lines, place);
       }
 
   good-s : (s : EmployeeOn) → Fits (contextAt room held p) (onEarlierE p) (underThisE p) (OfS s) → s .wages < 100000000000000 → Good room held (OfS s ∷ p)
   good-s s fits small =
-      let same = entries-s p s (fits .0) in
       let lines = rw (fits .0) at (g .lines) in
       record {
         ids-fit = ids-grow (idsUnder p) (s .id) (room .ids) (g .ids-fit) (new (fits .3));
         list-fit = g .list-fit;
-        entries = ap length same ∙ g .entries;
-        feins = ap feinsOf same ∙ g .feins;
+        some = rw (fits .0) at (g .some);
         many = omega (arith, fits .2);
         sum = omega (arith, g .sum);
         under = omega (arith, g .under);
@@ -155,35 +121,27 @@ module _ (room : Room) (held : Quarter) (p : List Said) (g : Good room held p) w
 
   good-t : Fits (contextAt room held p) (onEarlierE p) (underThisE p) OfT → Good room held (OfT ∷ p)
   good-t fits =
-      let was = entries-open p fits in
-      let now = entries-t p in
-      let size = ap length was ∙ length-snoc (closedIn p) (entryAtE (openIn p)) in
-      let feins = ap feinsOf was ∙ feins-append (closedIn p) _ in
       let lines = rw fits at (g .lines) in
-      let closed = length-snoc (closedIn p) (entryAtT (openIn p)) in
       record {
         ids-fit = omega arith;
         list-fit = g .list-fit;
-        entries = ap length now ∙ closed ∙ sym size ∙ g .entries;
-        feins = ap feinsOf now ∙ feins-append (closedIn p) _ ∙ sym feins ∙ g .feins;
+        some = omega arith;
         many = g .many;
         sum = g .sum;
         under = omega arith;
         under-sum = omega arith;
         fein = omega arith;
         quarter = inr (reportable-after EOpen fits refl);
-        lines = omega (arith, lines, closed);
+        lines = omega (arith, lines);
       }
 
   good-f : Fits (contextAt room held p) (onEarlierE p) (underThisE p) OfF → Good room held (OfF ∷ p)
   good-f fits =
-      let same = entries-f p fits in
       let lines = rw fits at (g .lines) in
       record {
         ids-fit = omega arith;
         list-fit = g .list-fit;
-        entries = ap length same ∙ g .entries;
-        feins = ap feinsOf same ∙ g .feins;
+        some = omega arith;
         many = g .many;
         sum = g .sum;
         under = omega arith;

@@ -19,15 +19,14 @@ use Rattle.edits.specs.declared.Phase.{Phase}
 use Rattle.edits.specs.declared.Phase.the-variants.{BeforeA, AfterA, EOpen, AfterT, AfterF}
 use Rattle.record.specs.Among.{passed-size, passed-positive}
 use Rattle.record.specs.Judge.{Judged, refusal, passed}
-use Rattle.record.specs.Passed.{passed-fits, Fits, Bounded, said-bounded}
+use Rattle.record.specs.Passed.{passed-fits, Bounded, said-bounded}
 use Rattle.record.specs.Numbered.{refusal-numbered}
 use Rattle.record.specs.PlaceTables.{endTest, end-parts}
 use Rattle.record.specs.declared.said.Said.{Said}
-use Rattle.record.specs.declared.said.Said.the-variants.{OfNone}
 use Rattle.tables.specs.Pad.{pad-none}
 use Rattle.tables.specs.Room.{Room, Tables, roomOf, zeroed}
 use Rattle.tables.specs.Tables.{noEmployer}
-use Rattle.meaning.specs.Before.{phaseAfter, totalsIn, entriesIn}
+use Rattle.meaning.specs.Before.{phaseIn, totalsIn, entriesIn}
 use Rattle.meaning.specs.FileLaws.{onto-nil, onto-cons, meaning-end, meaning-refuses, meaning-goes-on}
 use Rattle.meaning.specs.Meaning.{contextAt, onEarlierE, underThisE, judgeAt, foundOn, recordsOnto, accepted, refused, outcomeBy, meaningFrom}
 use Rattle.state.specs.Unfit.{isLeft}
@@ -73,10 +72,10 @@ module _ (room : Room) (held : Quarter) (allowed : isAllowed held ≡ true) wher
   refused-at p g column number = ap (refusedWith (notice number (length p + 1) column)) (room-at room held p g)
 
   -- ---- the end
-  accepted-end : (p : List Said) → Good room held p → phaseAfter p ≡ AfterF → carried (accepts (walkAt held p)) (tablesAt room p) ≡ leaves room held p (accepted (entriesIn p) (totalsIn p))
+  accepted-end : (p : List Said) → Good room held p → phaseIn p ≡ AfterF → carried (accepts (walkAt held p)) (tablesAt room p) ≡ leaves room held p (accepted (entriesIn p) (totalsIn p))
   accepted-end p g e = rw (ids-none p AfterF e refl, pad-none {A = ℕ} 0 (room .ids))
 
-  end-leaves : (p : List Said) → Good room held p → (phase : Phase) → phaseAfter p ≡ phase
+  end-leaves : (p : List Said) → Good room held p → (phase : Phase) → phaseIn p ≡ phase
       → carried (endVerdict (walkAt held p) (endTest phase)) (tablesAt room p) ≡ leaves room held p (outcomeBy (foundOn (length p + 1) (endTest phase)) p)
   end-leaves p g BeforeA e = refused-at p g 1 5
   end-leaves p g AfterA e = refused-at p g 1 6
@@ -85,16 +84,16 @@ module _ (room : Room) (held : Quarter) (allowed : isAllowed held ≡ true) wher
   end-leaves p g AfterF e = accepted-end p g e
 
   pub ends-by : (p : List Said) → Good room held p
-      → endStep (walkAt held p) (tablesAt room p) ≡ leaves room held p (outcomeBy (foundOn (length p + 1) (endTest (phaseAfter p))) p)
+      → endStep (walkAt held p) (tablesAt room p) ≡ leaves room held p (outcomeBy (foundOn (length p + 1) (endTest (phaseIn p))) p)
   ends-by p g =
       end-at room held p g allowed
-      ∙ ap (λ (f : Finding). carried (endVerdict (walkAt held p) f) (tablesAt room p)) (end-parts (phaseAfter p))
-      ∙ end-leaves p g (phaseAfter p) refl
+      ∙ ap (λ (f : Finding). carried (endVerdict (walkAt held p) f) (tablesAt room p)) (end-parts (phaseIn p))
+      ∙ end-leaves p g (phaseIn p) refl
 
   ends : (p : List Said) → Good room held p → endStep (walkAt held p) (tablesAt room p) ≡ leaves room held p (meaningFrom room held p [])
   ends p g =
       ends-by p g
-      ∙ sym (ap (leaves room held p) (meaning-end room held p ∙ ap (λ (f : Finding). outcomeBy (foundOn (length p + 1) f) p) (end-parts (phaseAfter p))))
+      ∙ sym (ap (leaves room held p) (meaning-end room held p ∙ ap (λ (f : Finding). outcomeBy (foundOn (length p + 1) f) p) (end-parts (phaseIn p))))
 
   -- ---- a line
   -- What a line that is refused, and one that is taken, leaves.
@@ -103,9 +102,6 @@ module _ (room : Room) (held : Quarter) (allowed : isAllowed held ≡ true) wher
   line-refused p g line column number e =
       line-at room held p g allowed line ∙ ap (λ (v : Judged). carried (byVerdict (walkAt held p) v) (tablesAt room p)) e ∙ refused-at p g column number
 
-  some-record : (p : List Said) (said : Said) → Fits (contextAt room held p) (onEarlierE p) (underThisE p) said → said ≡ OfNone → ⊥
-  some-record p said fits e = subst (Fits (contextAt room held p) (onEarlierE p) (underThisE p)) e fits
-
   pub line-taken : (p : List Said) → Good room held p → (line : Line) (taken : ℕ) (said : Said) → judgeAt room held p line ≡ passed taken said
       → lineStep (walkAt held p) line (tablesAt room p)
       ≡ record { says = allWell; taken = taken; walk = walkAt held (said ∷ p); left = tablesAt room (said ∷ p) }
@@ -113,7 +109,7 @@ module _ (room : Room) (held : Quarter) (allowed : isAllowed held ≡ true) wher
       let fits = passed-fits (contextAt room held p) (onEarlierE p) (underThisE p) line taken said e in
       line-at room held p g allowed line
       ∙ ap (λ (v : Judged). carried (byVerdict (walkAt held p) v) (tablesAt room p)) e
-      ∙ rw (after-said held p said (some-record p said fits), wrote room held p g said fits)
+      ∙ rw (after-said held p said, wrote room held p g said fits)
 
   pub taken-good : (p : List Said) → Good room held p → (line : Line) (taken : ℕ) (said : Said) → judgeAt room held p line ≡ passed taken said → Good room held (said ∷ p)
   taken-good p g line taken said e =

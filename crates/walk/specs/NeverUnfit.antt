@@ -21,7 +21,7 @@ use Rattle.record.specs.declared.said.Said.{Said}
 use Rattle.tables.specs.Pad.{length-pad}
 use Rattle.tables.specs.Room.{Room, Tables, roomOf, zeroed}
 use Rattle.tables.specs.Tables.{noEmployer}
-use Rattle.meaning.specs.Before.{phaseAfter, totalsIn, entriesIn}
+use Rattle.meaning.specs.Before.{phaseIn, totalsIn, entriesIn}
 use Rattle.meaning.specs.Meaning.{judgeAt, foundOn, accepted, outcomeBy}
 use Rattle.state.specs.Unfit.{isLeft, unfit}
 use Rattle.state.specs.UnfitLaws.{left-number, left-seventy, left-not-72, sound-fit}
@@ -64,7 +64,7 @@ pub record Ended (room : Room) (held : Quarter) (o : Out) : Type 0 where
   pub allowed : isAllowed held ≡ true
   pub p : List Said
   pub good : Good room held p
-  pub final : phaseAfter p ≡ AfterF
+  pub final : phaseIn p ≡ AfterF
   pub walk : o .walk ≡ acceptedAt held p
   pub left : roomOf (o .left) ≡ room
 
@@ -121,7 +121,7 @@ module _ (room : Room) (held : Quarter) (allowed : isAllowed held ≡ true) (p :
         subst (Well room held) (sym same)
         (reads room held allowed (said ∷ p) (taken-good room held allowed p g (firstLine bytes) taken said e) _ refl)
 
-  well-accepted : phaseAfter p ≡ AfterF → Well room held (leaves room held p (accepted (entriesIn p) (totalsIn p)))
+  well-accepted : phaseIn p ≡ AfterF → Well room held (leaves room held p (accepted (entriesIn p) (totalsIn p)))
   well-accepted e = (
     λ unfit-said. let z : _≡_ {A = ℕ} 0 72 = unfit-said in omega arith,
     inr (inl (record {
@@ -134,7 +134,7 @@ module _ (room : Room) (held : Quarter) (allowed : isAllowed held ≡ true) (p :
     })),
   )
 
-  well-phase : (phase : Phase) → phaseAfter p ≡ phase → Well room held (leaves room held p (outcomeBy (foundOn (length p + 1) (endTest phase)) p))
+  well-phase : (phase : Phase) → phaseIn p ≡ phase → Well room held (leaves room held p (outcomeBy (foundOn (length p + 1) (endTest phase)) p))
   well-phase BeforeA e = well-refused room held (notice 5 (length p + 1) 1) _ (left-number 5 (omega arith, omega arith)) refl
   well-phase AfterA e = well-refused room held (notice 6 (length p + 1) 1) _ (left-number 6 (omega arith, omega arith)) refl
   well-phase EOpen e = well-refused room held (notice 7 (length p + 1) 1) _ (left-number 7 (omega arith, omega arith)) refl
@@ -142,7 +142,7 @@ module _ (room : Room) (held : Quarter) (allowed : isAllowed held ≡ true) (p :
   well-phase AfterF e = well-accepted e
 
   well-end : Well room held (endStep (walkAt held p) (tablesAt room p))
-  well-end = subst (Well room held) (sym (ends-by room held allowed p g)) (well-phase (phaseAfter p) refl)
+  well-end = subst (Well room held) (sym (ends-by room held allowed p g)) (well-phase (phaseIn p) refl)
 
   well-reads : (call : Call) (o : Out) → o .walk ≡ walkAt held p → o .left ≡ tablesAt room p → Well room held (callStep call o)
   well-reads (lineCall bytes) o walk left =
@@ -150,7 +150,7 @@ module _ (room : Room) (held : Quarter) (allowed : isAllowed held ≡ true) (p :
   well-reads endCall o walk left = subst (Well room held) (sym (ap (λ (w : Walk). endStep w (o .left)) walk ∙ ap (endStep (walkAt held p)) left)) well-end
 
 -- ---- from acceptance
-module _ (room : Room) (held : Quarter) (allowed : isAllowed held ≡ true) (p : List Said) (g : Good room held p) (last : phaseAfter p ≡ AfterF) where
+module _ (room : Room) (held : Quarter) (allowed : isAllowed held ≡ true) (p : List Said) (g : Good room held p) (last : phaseIn p ≡ AfterF) where
   accepted-fit : unfit room (acceptedAt held p) ≡ false
   accepted-fit =
       sound-fit room (acceptedAt held p) (file-sound-at room held p g allowed) (λ o. absurd (false≢true o))

@@ -18,22 +18,23 @@ use Rattle.record.specs.declared.said.EmployeeOn.{EmployeeOn}
 use Rattle.record.specs.declared.said.EmployerOn.{EmployerOn}
 use Rattle.record.specs.declared.said.Said.{Said}
 use Rattle.record.specs.declared.said.Said.the-variants.{OfA, OfE, OfS, OfT, OfF, OfNone}
-use Rattle.tables.specs.Pad.{pad, pad-none, length-pad, take-pad, set-pad, wiped-pad, closed-pad}
+use Rattle.tables.specs.Pad.{pad, pad-none, length-pad, take-pad, set-pad, wiped-pad}
 use Rattle.tables.specs.Room.{Room, Tables, tables, roomOf, entriesUsed}
 use Rattle.tables.specs.Tables.{noEmployer, feinsOf}
 use Rattle.tables.specs.declared.Employer.{Employer}
-use Rattle.meaning.specs.Before.{phaseAfter, openIn, idsUnder, totalsIn, feinsIn, entryAtE, closedIn, entriesIn}
+use Rattle.meaning.specs.Before.{phaseIn, openIn, idsWith, idsUnder, totalsIn, feinsIn, entryAtE, entriesIn}
+use Rattle.meaning.specs.BeforeLaws.{closed-padded, entries-many, entries-feins}
 use Rattle.meaning.specs.Meaning.{contextAt, onEarlierE, underThisE}
-use Rattle.step.specs.Moves.{walkAfter, changeBy}
+use Rattle.step.specs.Moves.{usedAfter, walkAfter, changeBy}
 use Rattle.step.specs.Steps.{written}
 use Rattle.step.specs.declared.Change.the-variants.{Nothing, Adds}
-use Rattle.walk.specs.At.{walkAt, tablesAt, Good}
-use Rattle.walk.specs.GoodLaws.{length-snoc, entries-a, entries-e, entries-s, entries-t, entries-f, entries-open}
+use Rattle.walk.specs.At.{walkAt, tablesAt, opens, Good}
+use Rattle.walk.specs.GoodLaws.{length-snoc}
 
 -- ---- the tables
 module _ (room : Room) (held : Quarter) (p : List Said) (g : Good room held p) where
   pub entries-within : length (entriesIn p) ≤ room .list
-  entries-within = omega (arith, g .entries, g .list-fit)
+  entries-within = omega (arith, entries-many p, g .list-fit)
 
   -- They keep their lengths.
   pub room-at : roomOf (tablesAt room p) ≡ room
@@ -41,34 +42,31 @@ module _ (room : Room) (held : Quarter) (p : List Said) (g : Good room held p) w
 
   -- They list the FEINs of the E records and the identity numbers under the open E.
   pub feins-listed : feinsOf (take (totalsIn p .employers) (tablesAt room p .list)) ≡ feinsIn p
-  feins-listed = rw (← g .entries, take-pad noEmployer (room .list) (entriesIn p)) (g .feins)
+  feins-listed = rw (← entries-many p, take-pad noEmployer (room .list) (entriesIn p)) (entries-feins p)
 
   pub ids-listed : take (length (idsUnder p)) (tablesAt room p .ids) ≡ idsUnder p
   ids-listed = take-pad 0 (room .ids) (idsUnder p)
 
 -- ---- the state
-used-after : (ids : List ℕ) (id : ℕ) (none : Bool) → (if none then length ids else length ids + 1) ≡ length (if none then ids else ids ++ (id ∷ []))
-used-after ids id true = refl
-used-after ids id false = sym (length-snoc ids id)
+one-used : (ids : List ℕ) (id : ℕ) (none : Bool) → (if none then length ids else length ids + 1) ≡ length (if none then ids else ids ++ (id ∷ []))
+one-used ids id true = refl
+one-used ids id false = sym (length-snoc ids id)
 
-pub after-said : (held : Quarter) (p : List Said) (said : Said) → (said ≡ OfNone → ⊥) → walkAfter said (walkAt held p) ≡ walkAt held (said ∷ p)
-after-said held p (OfA quarter) some = rw add-one
-after-said held p (OfE e) some = rw add-one
-after-said held p (OfS s) some = rw (add-one, used-after (idsUnder p) (s .id) (eqb (s .id) 0))
-after-said held p OfT some = rw add-one
-after-said held p OfF some = rw add-one
-after-said held p OfNone some = absurd (some refl)
+used-after : (said : Said) (ids : List ℕ) → usedAfter said (length ids) ≡ length (idsWith said ids)
+used-after (OfA quarter) ids = refl
+used-after (OfE e) ids = refl
+used-after (OfS s) ids = one-used ids (s .id) (eqb (s .id) 0)
+used-after OfT ids = refl
+used-after OfF ids = refl
+used-after OfNone ids = refl
+
+-- The walk takes the same steps.
+pub after-said : (held : Quarter) (p : List Said) (said : Said) → walkAfter said (walkAt held p) ≡ walkAt held (said ∷ p)
+after-said held p said = rw (add-one, used-after said (idsUnder p))
 
 -- ---- what is written
-abbrev opens : Phase → ℕ
-opens BeforeA = 0
-opens AfterA = 0
-opens EOpen = 1
-opens AfterT = 0
-opens AfterF = 0
-
 -- No ids are kept where no E is open.
-pub ids-none : (p : List Said) (phase : Phase) → phaseAfter p ≡ phase → opens phase ≡ 0 → idsUnder p ≡ []
+pub ids-none : (p : List Said) (phase : Phase) → phaseIn p ≡ phase → opens phase ≡ 0 → idsUnder p ≡ []
 ids-none [] phase e none = refl
 ids-none (OfA quarter ∷ p) phase e none = refl
 ids-none (OfE employer ∷ p) phase e none = refl
@@ -79,7 +77,7 @@ ids-none (OfT ∷ p) phase e none = refl
 ids-none (OfF ∷ p) phase e none = refl
 ids-none (OfNone ∷ p) phase e none = refl
 
-ids-before-e : (p : List Said) → (phaseAfter p ≡ AfterA) ⊎ (phaseAfter p ≡ AfterT) → idsUnder p ≡ []
+ids-before-e : (p : List Said) → (phaseIn p ≡ AfterA) ⊎ (phaseIn p ≡ AfterT) → idsUnder p ≡ []
 ids-before-e p (inl a) = ids-none p AfterA a refl
 ids-before-e p (inr t) = ids-none p AfterT t refl
 
@@ -87,19 +85,15 @@ module _ (room : Room) (held : Quarter) (p : List Said) (g : Good room held p) w
   abbrev filled : List ℕ → List Employer → Tables
   filled ids entries = tables (pad 0 (room .ids) ids) (pad noEmployer (room .list) entries)
 
-  same-tables : (i j : List ℕ) (l m : List Employer) → i ≡ j → l ≡ m → filled i l ≡ filled j m
-  same-tables i j l m e f = rw (e, f)
-
-  wrote-a : (quarter : Quarter) → phaseAfter p ≡ BeforeA → tablesAt room p ≡ tablesAt room (OfA quarter ∷ p)
-  wrote-a quarter e = same-tables (idsUnder p) [] (entriesIn p) (entriesIn (OfA quarter ∷ p)) (ids-none p BeforeA e refl) (sym (entries-a p quarter e))
+  no-ids : (ids : List ℕ) (entries : List Employer) → ids ≡ [] → filled ids entries ≡ filled [] entries
+  no-ids ids entries none = rw none
 
   wrote-e : (e : EmployerOn) → Fits (contextAt room held p) (onEarlierE p) (underThisE p) (OfE e)
       → written (changeBy (OfE e) (walkAt held p)) (tablesAt room p) ≡ tablesAt room (OfE e ∷ p)
   wrote-e e fits =
       let less : totalsIn p .employers < entriesUsed room = leb-false (entriesUsed room) (totalsIn p .employers) (fits .1) in
-      let entry : Employer = record { fein = e .fein; count = 0; cents = 0 } in
-      rw (set-pad noEmployer (room .list) (entriesIn p) (totalsIn p .employers) entry (g .entries) (omega (arith, less)))
-      (same-tables (idsUnder p) [] (entriesIn p ++ (entry ∷ [])) (entriesIn (OfE e ∷ p)) (ids-before-e p (fits .0)) (sym (entries-e p e (fits .0))))
+      rw (set-pad noEmployer (room .list) (entriesIn p) (totalsIn p .employers) (entryAtE e) (entries-many p) (omega (arith, less)))
+      (no-ids (idsUnder p) (entriesIn (OfE e ∷ p)) (ids-before-e p (fits .0)))
 
   wrote-s : (s : EmployeeOn) → Fits (contextAt room held p) (onEarlierE p) (underThisE p) (OfS s)
       → written (changeBy (OfS s) (walkAt held p)) (tablesAt room p) ≡ tablesAt room (OfS s ∷ p)
@@ -107,35 +101,28 @@ module _ (room : Room) (held : Quarter) (p : List Said) (g : Good room held p) w
     at : (none : Bool) → eqb (s .id) 0 ≡ none → (s .id ≡ 0) ⊎ ((leb (room .ids) (length (idsUnder p)) ≡ false) × (underThisE p (s .id) ≡ false))
         → written (if none then Nothing else Adds (length (idsUnder p)) (s .id)) (tablesAt room p)
         ≡ filled (if none then idsUnder p else idsUnder p ++ (s .id ∷ [])) (entriesIn (OfS s ∷ p))
-    at true e new = same-tables (idsUnder p) (idsUnder p) (entriesIn p) (entriesIn (OfS s ∷ p)) refl (sym (entries-s p s (fits .0)))
+    at true e new = refl
     at false e (inl zero-id) = absurd (false≢true (sym e ∙ eq-eqb (s .id) 0 zero-id))
     at false e (inr free) =
         let less : length (idsUnder p) < room .ids = leb-false (room .ids) (length (idsUnder p)) (free .0) in
         rw (set-pad 0 (room .ids) (idsUnder p) (length (idsUnder p)) (s .id) refl less)
-        (same-tables (idsUnder p ++ (s .id ∷ [])) (idsUnder p ++ (s .id ∷ [])) (entriesIn p) (entriesIn (OfS s ∷ p)) refl (sym (entries-s p s (fits .0))))
 
-  wrote-t : phaseAfter p ≡ EOpen → written (changeBy OfT (walkAt held p)) (tablesAt room p) ≡ tablesAt room (OfT ∷ p)
+  wrote-t : phaseIn p ≡ EOpen → written (changeBy OfT (walkAt held p)) (tablesAt room p) ≡ tablesAt room (OfT ∷ p)
   wrote-t e =
-      let was = entries-open p e in
-      let last : totalsIn p .employers - 1 ≡ length (closedIn p) = omega (arith, g .entries, ap length was, length-snoc (closedIn p) (entryAtE (openIn p))) in
+      let some : 1 ≤ totalsIn p .employers = rw e at (g .some) in
       rw (
         wiped-pad 0 (room .ids) (idsUnder p) (g .ids-fit),
-        last,
-        was,
-        closed-pad (closedIn p) (entryAtE (openIn p)) (room .list) (openIn p .count) (openIn p .sum),
         pad-none {A = ℕ} 0 (room .ids),
-        entries-t p,
+        ← entries-many p,
+        closed-padded (openIn p) (room .list) (entriesIn p) (omega (arith, some, entries-many p)),
       )
-
-  wrote-f : phaseAfter p ≡ AfterT → tablesAt room p ≡ tablesAt room (OfF ∷ p)
-  wrote-f e = same-tables (idsUnder p) [] (entriesIn p) (entriesIn (OfF ∷ p)) (ids-none p AfterT e refl) (sym (entries-f p e))
 
   -- What a record that passes writes is what the records with it leave.
   pub wrote : (said : Said) → Fits (contextAt room held p) (onEarlierE p) (underThisE p) said
       → written (changeBy said (walkAt held p)) (tablesAt room p) ≡ tablesAt room (said ∷ p)
-  wrote (OfA quarter) fits = wrote-a quarter (fits .0)
+  wrote (OfA quarter) fits = no-ids (idsUnder p) (entriesIn p) (ids-none p BeforeA (fits .0) refl)
   wrote (OfE e) fits = wrote-e e fits
   wrote (OfS s) fits = wrote-s s fits
   wrote OfT fits = wrote-t fits
-  wrote OfF fits = wrote-f fits
+  wrote OfF fits = no-ids (idsUnder p) (entriesIn p) (ids-none p AfterT fits refl)
   wrote OfNone fits = absurd fits

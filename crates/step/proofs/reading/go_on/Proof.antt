@@ -28,7 +28,7 @@ returns-5 : tie.Need-returns-5
 returns-5 c = rw (c .before .enum-told2 .given .1) (c .last .ensures)
 
 returns-6 : tie.Need-returns-6
-returns-6 c = rw (c .before .enum-told3 .given .1) (c .moves .ensures)
+returns-6 c = rw (c .before .enum-told3 .given .1) (c .no-record .ensures)
 
 pub go-on-spec : {M : Type 1} → statement M
 go-on-spec =
