@@ -21,12 +21,12 @@ module _ (this : Open) where
   closed-behind (one ∷ []) entry = refl
   closed-behind (one ∷ next ∷ front) entry = ap (λ (l : List Employer). one ∷ l) (closed-behind (next ∷ front) entry)
 
-  pub closed-many : (entries : List Employer) → length (closedLast this entries) ≡ length entries
+  closed-many : (entries : List Employer) → length (closedLast this entries) ≡ length entries
   closed-many [] = refl
   closed-many (entry ∷ []) = refl
   closed-many (entry ∷ next ∷ entries) = ap suc (closed-many (next ∷ entries))
 
-  pub closed-feins : (entries : List Employer) → feinsOf (closedLast this entries) ≡ feinsOf entries
+  closed-feins : (entries : List Employer) → feinsOf (closedLast this entries) ≡ feinsOf entries
   closed-feins [] = refl
   closed-feins (entry ∷ []) = refl
   closed-feins (entry ∷ next ∷ entries) = ap (λ (l : List ℕ). entry .fein ∷ l) (closed-feins (next ∷ entries))

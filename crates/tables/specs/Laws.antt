@@ -6,7 +6,7 @@ use mathlib.Core.Path.{_≡_, refl, ap}
 use native.Mathlib.Nat.{zero-min}
 use native.Mathlib.Omega.{arith}
 use lib.ListN.{length, getD, take, set, replicate, length-append, length-drop, length-replicate, length-set, drop-of-length-le}
-use lib.Seq.{drop-append-seam, set-append-seam, getD-append-seam, set-out}
+use lib.Seq.{drop-append-seam, set-out}
 use Rattle.tables.specs.Tables.{wiped, isAmong, noEmployer, closed, closedAt, feinsOf}
 use Rattle.tables.specs.declared.Employer.{Employer}
 
@@ -65,8 +65,3 @@ closed-length at count cents l = simp length-set
 pub closed-out : (at count cents : ℕ) (l : List Employer) → length l ≤ at → closedAt at count cents l ≡ l
 unfolding closedAt
 closed-out at count cents l h = set-out l at _ h
-
-pub closed-at : (front : List Employer) (e : Employer) (back : List Employer) (count cents : ℕ)
-    → closedAt (length front) count cents (front ++ (e ∷ back)) ≡ front ++ (closed e count cents ∷ back)
-unfolding closedAt
-closed-at front e back count cents = rw (getD-append-seam front e back noEmployer, set-append-seam)

@@ -5,9 +5,8 @@ use mathlib.Core.Path.{_≡_}
 use native.Mathlib.Omega.{arith}
 use lib.ListN.{length, take, set, replicate, length-append, length-replicate, replicate-append-replicate}
 use lib.Seq.{take-append-seam, set-at}
-use Rattle.tables.specs.Laws.{wiped-front, closed-at}
-use Rattle.tables.specs.Tables.{wiped, noEmployer, closed, closedAt}
-use Rattle.tables.specs.declared.Employer.{Employer}
+use Rattle.tables.specs.Laws.{wiped-front}
+use Rattle.tables.specs.Tables.{wiped}
 
 unfoldable pub pad : {A : Type 0} → A → ℕ → List A → List A
 pad z n l = l ++ replicate (n - length l) z
@@ -36,10 +35,3 @@ module _ {A : Type 0} (z : A) (n : ℕ) where
   wiped-pad l h =
       let all : length l + (n - length l) ≡ n = omega arith in
       rw (wiped-front, replicate-append-replicate, all)
-
-pub closed-pad : (front : List Employer) (e : Employer) (n count cents : ℕ)
-    → closedAt (length front) count cents (pad noEmployer n (front ++ (e ∷ []))) ≡ pad noEmployer n (front ++ (closed e count cents ∷ []))
-unfolding pad
-closed-pad front e n count cents =
-    let left = replicate (n - length (front ++ (e ∷ []))) noEmployer in
-    rw (append-assoc front (e ∷ []) left, closed-at front e left count cents, length-append front (e ∷ []), append-assoc, length-append)

@@ -69,6 +69,7 @@ done AfterF = 1
 pub record Good (room : Room) (held : Quarter) (p : List Said) : Type 0 where
   pub ids-fit : length (idsUnder p) ≤ room .ids
   pub list-fit : totalsIn p .employers ≤ entriesUsed room
+  -- An open E is one of those counted.
   pub some : opens (phaseIn p) ≤ totalsIn p .employers
   pub many : totalsIn p .count ≤ mostEmployees
   pub sum : totalsIn p .sum ≤ totalsIn p .count * mostWages

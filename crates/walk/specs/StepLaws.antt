@@ -12,7 +12,7 @@ use borrow.Author.Tests.{eq-eqb, leb-false}
 use Rattle.laws.specs.Choice.{if_then_else_}
 use Rattle.calendar.specs.declared.Quarter.{Quarter}
 use Rattle.edits.specs.declared.Phase.{Phase}
-use Rattle.edits.specs.declared.Phase.the-variants.{BeforeA, AfterA, EOpen, AfterT, AfterF}
+use Rattle.edits.specs.declared.Phase.the-variants.{BeforeA, AfterA, EOpen, AfterT}
 use Rattle.record.specs.Passed.{Fits}
 use Rattle.record.specs.declared.said.EmployeeOn.{EmployeeOn}
 use Rattle.record.specs.declared.said.EmployerOn.{EmployerOn}
