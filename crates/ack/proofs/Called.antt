@@ -4,8 +4,8 @@ use mathlib.Core.Path.{_≡_, refl}
 use lib.ListN.{length, drop}
 use contract.Monad.{factI}
 use denote.Struct.Laws as LL
-use Rattle.calendar.proofs.Quarter as Q
-use Rattle.calendar.proofs.Quarter.Laws as Q′
+use Rattle.edits.proofs.Opening as O
+use Rattle.edits.proofs.Opening.Laws as O′
 use Rattle.tables.specs.Room.{tables}
 use Rattle.tables.proofs.Walk.{URA, Heap, Atoms, Given, Memory, Routine, Fun, SProp, emp, id⊢, vbool, bool-tells, Callee, total}
 use Rattle.state.specs.Walks.{walkOf}
@@ -13,7 +13,7 @@ use Rattle.step.specs.Moves.{takenIn}
 use Rattle.ack.specs.Answers.{progressOf, turnedBy}
 use Rattle.ack.specs.Places.{takesLine, placeBehind}
 use Rattle.ack.specs.Starts.{starting, startingOf}
-use Rattle.ack.specs.Turns.{headerQuarter, linesTurn, turn as turnOf}
+use Rattle.ack.specs.Turns.{headerOpening, linesTurn, turn as turnOf}
 use Rattle.ack.specs.declared.Progress.the-variants.{Walking, Finished}
 use Rattle.ack.specs.declared.Turned.{Turned}
 use Rattle.ack.proofs.Place as P
@@ -34,7 +34,7 @@ use Rattle.ack.proofs.turn as turn-fn
 module _ {M : Type 1} {𝓤 : URA M} {H : Heap 𝓤} {A : Atoms 𝓤} (W : Given 𝓤 H A) (mem : Memory → SProp 𝓤) (run : Routine → Fun 𝓤) where
   -- ---- what decides
   abbrev pub header : Callee W
-  header = total W header-fn.ended (header-fn.clauses 𝓤 H A mem run) (λ κs a g. id⊢ 𝓤 (emp 𝓤)) (λ κs a g r ws. r ≡ headerQuarter (a .0 .now)) (λ κs a g r ws. refl) (λ κs. LL.val Q.the-type Q′.the-laws) (λ κs. LL.tells Q.the-type Q′.the-laws)
+  header = total W header-fn.ended (header-fn.clauses 𝓤 H A mem run) (λ κs a g. id⊢ 𝓤 (emp 𝓤)) (λ κs a g r ws. r ≡ headerOpening (a .0 .now)) (λ κs a g r ws. refl) (λ κs. LL.val O.the-type O′.the-laws) (λ κs. LL.tells O.the-type O′.the-laws)
 
   abbrev pub takes-line : Callee W
   takes-line = total W takes-line-fn.ended (takes-line-fn.clauses 𝓤 H A mem run) (λ κs a g. id⊢ 𝓤 (emp 𝓤)) (λ κs a g r ws. r ≡ takesLine (a .0) (a .1 .0)) (λ κs a g r ws. refl) (λ κs. vbool) (λ κs. bool-tells)

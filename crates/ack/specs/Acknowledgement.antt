@@ -3,22 +3,22 @@ use Prim.Native.Nat.{ℕ}
 use mathlib.Core.List.{List}
 use lib.ListN.{drop}
 use Rattle.laws.specs.Choice.{if_then_else_}
-use Rattle.reason.specs.Numbers.{notice}
-use Rattle.calendar.specs.Quarters.{isAllowed}
-use Rattle.calendar.specs.declared.Quarter.{Quarter}
 use Rattle.tables.specs.Room.{Room}
+use Rattle.edits.specs.Formats.{mayOpen}
+use Rattle.edits.specs.declared.Opening.{Opening}
 use Rattle.meaning.specs.Meaning.{meaning}
+use Rattle.step.specs.Moves.{openingNotice}
 use Rattle.frames.specs.Frames.{refusalFrame, framesOf}
-use Rattle.ack.specs.Turns.{headerSize, headerQuarter}
+use Rattle.ack.specs.Turns.{headerSize, headerOpening}
 
 -- "Tables: 1,024 employers, 8,192 ids."
 abbrev pub programRoom : Room
 programRoom = record { ids = 8192; list = 1024 }
 
--- The acknowledgement of a file under a last closed quarter.
-abbrev pub fileFrames : Quarter → List ℕ → List ℕ
-fileFrames held file = if isAllowed held then framesOf (meaning programRoom held file) else refusalFrame (notice 70 0 0)
+-- The acknowledgement of a file of a format, under a last closed quarter.
+abbrev pub fileFrames : Opening → List ℕ → List ℕ
+fileFrames held file = if mayOpen held then framesOf (meaning programRoom held file) else refusalFrame (openingNotice held)
 
 -- "Input: six digits YYYYMM of the last closed quarter and LF (else 70; not counted as a line), then the file."
 abbrev pub acknowledgement : List ℕ → List ℕ
-acknowledgement input = fileFrames (headerQuarter input) (drop headerSize input)
+acknowledgement input = fileFrames (headerOpening input) (drop headerSize input)

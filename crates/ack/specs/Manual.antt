@@ -5,18 +5,21 @@ use mathlib.Core.List.{List}
 use mathlib.Core.Path.{_≡_, refl, sym, ap, subst, _∙_}
 use native.Mathlib.Omega.{arith}
 use lib.ListN.{length, drop}
-use Rattle.reason.specs.Numbers.{Notice, notice}
+use Rattle.reason.specs.Numbers.{Notice}
 use Rattle.calendar.specs.Quarters.{isAllowed}
-use Rattle.calendar.specs.declared.Quarter.{Quarter}
+use Rattle.edits.specs.FormatLaws.{opens-pfml}
+use Rattle.edits.specs.Formats.{mayOpen}
+use Rattle.edits.specs.declared.Opening.{Opening}
 use Rattle.meaning.specs.Employers.{employers-are}
 use Rattle.meaning.specs.Forward.{recordsOf, employersOf, totalsOf}
 use Rattle.meaning.specs.Meaning.{LineEdit, fileEdits, Outcome, accepted, refused, meaning}
 use Rattle.meaning.specs.Theorems.{NoneBroken, FirstBroken, not-refused, accepted-iff, first-is-first}
+use Rattle.step.specs.Moves.{openingNotice}
 use Rattle.frames.specs.FirstByte.{never-both}
 use Rattle.frames.specs.FrameLaws.{refusal-length, within-bound}
 use Rattle.frames.specs.Frames.{refusalFrame, framesOf}
 use Rattle.ack.specs.Acknowledgement.{programRoom, fileFrames, acknowledgement}
-use Rattle.ack.specs.Turns.{headerSize, headerQuarter}
+use Rattle.ack.specs.Turns.{headerSize, headerQuarter, headerOpening}
 
 -- "accepted .. with each employer's totals below it": a frame for each E record, with the S records under it, then the closing frame with those of the file.
 abbrev pub acceptedFrames : List ℕ → List ℕ
@@ -36,7 +39,7 @@ pub record ToldAsInManual (edits : List LineEdit) (file output : List ℕ) : Typ
   -- and any other output is a refusal.
   pub otherwise-refused : (output ≡ acceptedFrames file → ⊥) → RefusedFirst edits output
 
-module _ (held : Quarter) (file : List ℕ) where
+module _ (held : Opening) (file : List ℕ) where
   abbrev edits : List LineEdit
   edits = fileEdits programRoom held file
 
@@ -58,22 +61,22 @@ module _ (held : Quarter) (file : List ℕ) where
 
 -- The acknowledgement of every input whose header gives a quarter that may be the last closed one says of its file what the manual says.
 pub acknowledged-as-in-manual : (input : List ℕ) → isAllowed (headerQuarter input) ≡ true
-    → ToldAsInManual (fileEdits programRoom (headerQuarter input) (drop headerSize input)) (drop headerSize input) (acknowledgement input)
+    → ToldAsInManual (fileEdits programRoom (headerOpening input) (drop headerSize input)) (drop headerSize input) (acknowledgement input)
 acknowledged-as-in-manual input allowed =
-    rw allowed (by-outcome (headerQuarter input) (drop headerSize input) (meaning programRoom (headerQuarter input) (drop headerSize input)) refl)
+    rw (opens-pfml (headerQuarter input) allowed) (by-outcome (headerOpening input) (drop headerSize input) (meaning programRoom (headerOpening input) (drop headerSize input)) refl)
 
 -- ---- "So no output exceeds 35 bytes for each employer and 35 more."
-outcome-bound : (held : Quarter) (file : List ℕ) (outcome : Outcome) → meaning programRoom held file ≡ outcome
+outcome-bound : (held : Opening) (file : List ℕ) (outcome : Outcome) → meaning programRoom held file ≡ outcome
     → length (framesOf outcome) ≤ 35 * length (employersOf (recordsOf file)) + 35
 outcome-bound held file (accepted entries totals) e =
     let are = employers-are programRoom held file entries totals e .0 in
     rw (within-bound (accepted entries totals), are) (omega arith)
 outcome-bound held file (refused says) e = rw (refusal-length says) (omega arith)
 
-file-bound : (held : Quarter) (file : List ℕ) (allowed : Bool) → isAllowed held ≡ allowed → length (fileFrames held file) ≤ 35 * length (employersOf (recordsOf file)) + 35
+file-bound : (held : Opening) (file : List ℕ) (allowed : Bool) → mayOpen held ≡ allowed → length (fileFrames held file) ≤ 35 * length (employersOf (recordsOf file)) + 35
 file-bound held file true e = rw e (outcome-bound held file (meaning programRoom held file) refl)
-file-bound held file false e = rw (e, refusal-length (notice 70 0 0)) (omega arith)
+file-bound held file false e = rw (e, refusal-length (openingNotice held)) (omega arith)
 
 -- Of every input, whatever it is: the employers are the E records of the file behind its header.
 pub acknowledgement-bound : (input : List ℕ) → length (acknowledgement input) ≤ 35 * length (employersOf (recordsOf (drop headerSize input))) + 35
-acknowledgement-bound input = file-bound (headerQuarter input) (drop headerSize input) (isAllowed (headerQuarter input)) refl
+acknowledgement-bound input = file-bound (headerOpening input) (drop headerSize input) (mayOpen (headerOpening input)) refl

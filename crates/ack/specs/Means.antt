@@ -6,12 +6,14 @@ use mathlib.Core.Path.{_≡_, refl, sym, ap, subst, _∙_}
 use native.Mathlib.Omega.{arith}
 use lib.ListN.{length, drop}
 use borrow.Author.Tests.{le-ltb}
-use Rattle.reason.specs.Numbers.{Notice, notice}
-use Rattle.calendar.specs.Quarters.{isAllowed}
-use Rattle.calendar.specs.declared.Quarter.{Quarter}
+use Rattle.reason.specs.Numbers.{Notice}
 use Rattle.lines.specs.Lines.{linesOf}
-use Rattle.record.specs.declared.said.Said.{Said}
+use Rattle.edits.specs.FormatLaws.{opens-known}
+use Rattle.edits.specs.Formats.{mayOpen}
+use Rattle.edits.specs.declared.Opening.{Opening}
 use Rattle.edits.specs.declared.Phase.the-variants.{AfterF}
+use Rattle.edits.specs.declared.format.Format.{Format}
+use Rattle.record.specs.declared.said.Said.{Said}
 use Rattle.tables.specs.Pad.{pad, length-pad}
 use Rattle.tables.specs.Room.{Tables, tables, roomOf}
 use Rattle.tables.specs.Tables.{noEmployer}
@@ -21,9 +23,10 @@ use Rattle.meaning.specs.BeforeLaws.{entries-many}
 use Rattle.meaning.specs.Meaning.{Outcome, accepted, refused, recordsOnto, meaning}
 use Rattle.meaning.specs.Theorems.{accepted-iff}
 use Rattle.state.specs.Unfit.{isLeft, unfit}
-use Rattle.state.specs.UnfitLaws.{left-seventy, refused-fit, sound-fit}
+use Rattle.state.specs.UnfitLaws.{left-opening, refused-fit, sound-fit}
 use Rattle.state.specs.Walks as walks
 use Rattle.state.specs.Walks.{refusedWalk}
+use Rattle.step.specs.Moves.{openingNotice}
 use Rattle.step.specs.Steps.{Out}
 use Rattle.walk.specs.At.{acceptedAt, Good}
 use Rattle.walk.specs.AtEnd.{all-taken, refused-left}
@@ -36,11 +39,11 @@ use Rattle.frames.specs.FrameLaws.{refusal-length, within-bound, accepted-frame
 use Rattle.ack.specs.Acknowledgement.{programRoom, fileFrames, acknowledgement}
 use Rattle.ack.specs.Program.{turns, input}
 use Rattle.ack.specs.ProgramLaws.{turns-wait}
-use Rattle.ack.specs.Turns.{Progress, waiting, walking, finished, ends, headerQuarter}
+use Rattle.ack.specs.Turns.{Progress, waiting, walking, finished, ends, headerOpening}
 
 -- The turns end as the whole file does.
-whole-end : (reads : List (List ℕ)) (t : Tables) → turns waiting [] reads t ≡ ends (wholeFile (headerQuarter (input reads)) (drop 7 (input reads)) t)
-whole-end reads t = turns-wait reads [] t ∙ ap ends (whole-means (headerQuarter (input reads)) (drop 7 (input reads)) t)
+whole-end : (reads : List (List ℕ)) (t : Tables) → turns waiting [] reads t ≡ ends (wholeFile (headerOpening (input reads)) (drop 7 (input reads)) t)
+whole-end reads t = turns-wait reads [] t ∙ ap ends (whole-means (headerOpening (input reads)) (drop 7 (input reads)) t)
 
 -- The buffer that holds the frames of 1,024 employers: "35 bytes for each employer and 35 more".
 abbrev pub enough : ℕ
@@ -54,14 +57,14 @@ fit-written : (frames out : List ℕ) → length frames ≤ length out → fitte
 fit-written frames out h = rw (le-ltb (length out) (length frames) h)
 
 -- ---- a refusal
-refused-written : (says : Notice) (list : List Employer) (out : List ℕ) → isLeft (says .number) ≡ true → enough ≤ length out
-    → framing (refusedWalk says) list out ≡ writes (refusalFrame says) out
-refused-written says list out left h =
-    refused-framed (refusedWalk says) out list says (refused-fit (roomWithout (refusedWalk says) list) says left) refl
+refused-written : (format : Format) (says : Notice) (list : List Employer) (out : List ℕ) → isLeft format (says .number) ≡ true → enough ≤ length out
+    → framing (refusedWalk format says) list out ≡ writes (refusalFrame says) out
+refused-written format says list out left h =
+    refused-framed (refusedWalk format says) out list says (refused-fit (roomWithout (refusedWalk format says) list) format says left) refl
     ∙ fit-written (refusalFrame says) out (rw (refusal-length says) (omega arith))
 
 -- ---- acceptance
-module _ (held : Quarter) (allowed : isAllowed held ≡ true) (p : List Said) (good : Good programRoom held p) (last : phaseIn p ≡ AfterF) where
+module _ (held : Opening) (allowed : mayOpen held ≡ true) (p : List Said) (good : Good programRoom held p) (last : phaseIn p ≡ AfterF) where
   abbrev list : List Employer
   list = pad noEmployer 1024 (entriesIn p)
 
@@ -81,27 +84,27 @@ module _ (held : Quarter) (allowed : isAllowed held ≡ true) (p : List Said) (g
       ∙ fit-written (framesOf (accepted (entriesIn p) (totalsIn p))) out (rw (within-bound (accepted (entriesIn p) (totalsIn p))) (omega (arith, few)))
 
 -- ---- a file
-module _ (held : Quarter) (file : List ℕ) (t : Tables) (room : roomOf t ≡ programRoom) (out : List ℕ) (h : enough ≤ length out) where
+module _ (held : Opening) (file : List ℕ) (t : Tables) (room : roomOf t ≡ programRoom) (out : List ℕ) (h : enough ≤ length out) where
   abbrev records : List Said
   records = recordsOnto [] (linesOf file)
 
   abbrev WritesFor : Out → List ℕ → Type 0
   WritesFor o frames = framing (o .walk) (o .left .list) out ≡ writes frames out
 
-  meant-written : isAllowed held ≡ true → (outcome : Outcome) → meaning programRoom held file ≡ outcome → WritesFor (leaves programRoom held records outcome) (framesOf outcome)
+  meant-written : mayOpen held ≡ true → (outcome : Outcome) → meaning programRoom held file ≡ outcome → WritesFor (leaves programRoom held records outcome) (framesOf outcome)
   meant-written allowed (accepted entries totals) e =
       let iff = accepted-iff programRoom held file in
       let same : accepted entries totals ≡ accepted (entriesIn records) (totalsIn records) = sym e ∙ iff .0 (iff .1 entries totals e) in
       let taken = all-taken programRoom held allowed entries totals (linesOf file) [] (good-none programRoom held) e in
       subst (λ (o : Outcome). WritesFor (leaves programRoom held records o) (framesOf o)) (sym same)
       (accepted-written held allowed records (taken .0) (taken .1) out h)
-  meant-written allowed (refused says) e = refused-written says _ out (refused-left programRoom held says (linesOf file) [] e) h
+  meant-written allowed (refused says) e = refused-written (held .format) says _ out (refused-left programRoom held says (linesOf file) [] (opens-known held allowed) e) h
 
   file-written : WritesFor (wholeFile held file t) (fileFrames held file)
-  file-written = at (isAllowed held) refl where
-    at : (allowed : Bool) → isAllowed held ≡ allowed → WritesFor (wholeFile held file t) (fileFrames held file)
+  file-written = at (mayOpen held) refl where
+    at : (allowed : Bool) → mayOpen held ≡ allowed → WritesFor (wholeFile held file t) (fileFrames held file)
     at true e = rw (e, room) (meant-written e (meaning programRoom held file) refl)
-    at false e = rw e (refused-written (notice 70 0 0) (t .list) out left-seventy h)
+    at false e = rw e (refused-written (held .format) (openingNotice held) (t .list) out (left-opening held) h)
 
 -- The frames that a finished turn writes into a buffer.
 abbrev pub turnFrames : Progress → Tables → List ℕ → Framing
@@ -113,4 +116,4 @@ turnFrames (finished walk) t out = framing walk (t .list) out
 pub program-means : (reads : List (List ℕ)) (t : Tables) → roomOf t ≡ programRoom → (out : List ℕ) → enough ≤ length out
     → turnFrames (turns waiting [] reads t .progress) (turns waiting [] reads t .tables) out
     ≡ record { says = written (length (acknowledgement (input reads))); out = acknowledgement (input reads) ++ drop (length (acknowledgement (input reads))) out }
-program-means reads t room out h = rw (whole-end reads t) (file-written (headerQuarter (input reads)) (drop 7 (input reads)) t room out h)
+program-means reads t room out h = rw (whole-end reads t) (file-written (headerOpening (input reads)) (drop 7 (input reads)) t room out h)

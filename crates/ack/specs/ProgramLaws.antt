@@ -20,7 +20,7 @@ use Rattle.step.specs.Steps.{Out, openStep, lineStep, endStep}
 use Rattle.walk.specs.CallLaws.{pieces-are-whole}
 use Rattle.walk.specs.Calls.{calls}
 use Rattle.walk.specs.WholeLaws.{all, calls-end, calls-refused, calls-taken, taken-within}
-use Rattle.ack.specs.Turns.{Progress, waiting, walking, finished, Turn, ends, goesOn, linesTurn, headerQuarter, turn}
+use Rattle.ack.specs.Turns.{Progress, waiting, walking, finished, Turn, ends, goesOn, linesTurn, headerQuarter, headerOpening, turn}
 use Rattle.ack.specs.Program.{turns, input}
 
 -- A turn that is not the last agrees with a walk over what is held and all that will be read: it has ended so, or the rest of the walk is still before it.
@@ -111,7 +111,7 @@ header-held held future h =
 
 -- A walk over an input: header, then the file.
 abbrev pub walkOver : List ℕ → Tables → Out
-walkOver all-bytes t = calls all 0 (drop 7 all-bytes) (openStep (headerQuarter all-bytes) t .walk) (openStep (headerQuarter all-bytes) t .left)
+walkOver all-bytes t = calls all 0 (drop 7 all-bytes) (openStep (headerOpening all-bytes) t .walk) (openStep (headerOpening all-bytes) t .left)
 
 -- ---- all turns
 finished-stays : (walk : Walk) (left : List ℕ) (reads : List (List ℕ)) (t : Tables) → turns (finished walk) left reads t ≡ record { progress = finished walk; left = []; tables = t }
@@ -137,16 +137,16 @@ turns-walk (read ∷ reads) left walk t =
 
 -- Before the header is whole, and when it is.
 opened-agrees : (held : List ℕ) (t : Tables) (future : List ℕ) → 7 ≤ length held
-    → calls all 0 (drop 7 held ++ future) (openStep (headerQuarter held) t .walk) (openStep (headerQuarter held) t .left) ≡ walkOver (held ++ future) t
+    → calls all 0 (drop 7 held ++ future) (openStep (headerOpening held) t .walk) (openStep (headerOpening held) t .left) ≡ walkOver (held ++ future) t
 opened-agrees held t future h = rw (header-held held future h, drop-append-le 7 held future h)
 
 waits : (reads : List (List ℕ)) (held : List ℕ) (t : Tables) → turns waiting held reads t ≡ ends (walkOver (held ++ input reads) t)
     → (whole : Bool) → leb 7 (length held) ≡ whole
-    → (let next = if whole then linesTurn false 0 (drop 7 held) (openStep (headerQuarter held) t .walk) (openStep (headerQuarter held) t .left) else record { progress = waiting; left = held; tables = t } in
+    → (let next = if whole then linesTurn false 0 (drop 7 held) (openStep (headerOpening held) t .walk) (openStep (headerOpening held) t .left) else record { progress = waiting; left = held; tables = t } in
     turns (next .progress) (next .left) reads (next .tables)) ≡ ends (walkOver (held ++ input reads) t)
 waits reads held t more true e =
-    let walk = openStep (headerQuarter held) t .walk in
-    let left = openStep (headerQuarter held) t .left in
+    let walk = openStep (headerOpening held) t .walk in
+    let left = openStep (headerOpening held) t .left in
     let next = linesTurn false 0 (drop 7 held) walk left in
     mutual-on reads (turns-walk reads) (next .progress) (next .left) (next .tables) (calls all 0 (drop 7 held ++ input reads) walk left)
     (lines-agree (input reads) (drop 7 held) 0 (omega arith) walk left)
@@ -157,7 +157,7 @@ waits reads held t more false e = more
 pub turns-wait : (reads : List (List ℕ)) (left : List ℕ) (t : Tables) → turns waiting left reads t ≡ ends (walkOver (left ++ input reads) t)
 unfolding turns turn
 turns-wait [] left t =
-    lines-ended (drop 7 left) 0 (openStep (headerQuarter left) t .walk) (openStep (headerQuarter left) t .left)
+    lines-ended (drop 7 left) 0 (openStep (headerOpening left) t .walk) (openStep (headerOpening left) t .left)
     ∙ ap (λ (s : List ℕ). ends (walkOver s t)) (sym (append-nil left))
 turns-wait (read ∷ reads) left t =
     waits reads (left ++ read) t (turns-wait reads (left ++ read) t) (leb 7 (length (left ++ read))) refl

@@ -12,7 +12,7 @@ use Rattle.lines.specs.Lines.{firstLine}
 use Rattle.tables.specs.Room.{Tables}
 use Rattle.state.specs.Walks.{Walk}
 use Rattle.step.specs.Steps.{Out, openStep, lineStep, endStep}
-use Rattle.ack.specs.Turns.{Progress, waiting, walking, finished, Turn, ends, goesOn, linesTurn, headerQuarter, turn}
+use Rattle.ack.specs.Turns.{Progress, waiting, walking, finished, Turn, ends, goesOn, linesTurn, headerOpening, turn}
 
 abbrev Short : Turn → Type 0
 Short next = length (next .left) < 292
@@ -40,10 +40,10 @@ header-short : (held : List ℕ) (t : Tables) → Short (turn waiting false held
 unfolding turn
 header-short held t = at (leb 7 (length held)) refl where
   next : Turn
-  next = linesTurn false 0 (drop 7 held) (openStep (headerQuarter held) t .walk) (openStep (headerQuarter held) t .left)
+  next = linesTurn false 0 (drop 7 held) (openStep (headerOpening held) t .walk) (openStep (headerOpening held) t .left)
 
   at : (whole : Bool) → leb 7 (length held) ≡ whole → Short (if whole then next else record { progress = waiting; left = held; tables = t })
-  at true e = lines-short (drop 7 held) 0 (openStep (headerQuarter held) t .walk) (openStep (headerQuarter held) t .left)
+  at true e = lines-short (drop 7 held) 0 (openStep (headerOpening held) t .walk) (openStep (headerOpening held) t .left)
   at false e = let short : length held < 7 = leb-false 7 (length held) e in omega arith
 
 pub left-short : (progress : Progress) (held : List ℕ) (t : Tables) → length (turn progress false held t .left) < 292

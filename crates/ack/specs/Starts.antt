@@ -9,10 +9,9 @@ use lib.Dec.{leb}
 use lib.ListN.{length, drop}
 use lib.Seq.{drop-length}
 use Rattle.tables.specs.Room.{Tables}
-use Rattle.meaning.specs.Before.{noQuarter}
-use Rattle.state.specs.Walks.{Walk, walkOf, openedWalk}
+use Rattle.state.specs.Walks.{Walk, noOpening, walkOf, openedWalk}
 use Rattle.step.specs.Steps.{openStep}
-use Rattle.ack.specs.Turns.{headerSize, headerQuarter, Progress, waiting, walking, finished, Turn, linesTurn, turn}
+use Rattle.ack.specs.Turns.{headerSize, headerOpening, Progress, waiting, walking, finished, Turn, linesTurn, turn}
 use Rattle.ack.specs.declared.Start.{Start}
 
 -- With the header, with the lines of a walk, or not at all, and then with so many bytes taken.
@@ -22,9 +21,9 @@ pub record Starting : Type 0 where
   pub walk : Walk
   pub taken : ℕ
 
--- Where no walk is under way, that of no quarter stands for it.
+-- Where no walk is under way, one that is not opened stands for it.
 abbrev pub starting : Progress → Bool → ℕ → Starting
-starting waiting ended held = record { opens = ended || leb headerSize held; walks = false; walk = openedWalk noQuarter; taken = 0 }
+starting waiting ended held = record { opens = ended || leb headerSize held; walks = false; walk = openedWalk noOpening; taken = 0 }
 starting (walking walk) ended held = record { opens = false; walks = true; walk = walk; taken = 0 }
 starting (finished walk) ended held = record { opens = false; walks = false; walk = walk; taken = held }
 
@@ -33,7 +32,7 @@ startingOf start = record { opens = start .opens; walks = start .walks; walk = w
 
 -- ---- what the turn then is
 module _ (ended : Bool) (held : List ℕ) (t : Tables) where
-  opening : (progress : Progress) → starting progress ended (length held) .opens ≡ true → turn progress ended held t ≡ linesTurn ended 0 (drop headerSize held) (openStep (headerQuarter held) t .walk) (openStep (headerQuarter held) t .left)
+  opening : (progress : Progress) → starting progress ended (length held) .opens ≡ true → turn progress ended held t ≡ linesTurn ended 0 (drop headerSize held) (openStep (headerOpening held) t .walk) (openStep (headerOpening held) t .left)
   unfolding turn
   opening waiting opens = rw opens
   opening (walking walk) opens = absurd (false≢true opens)
@@ -56,7 +55,7 @@ module _ (ended : Bool) (held : List ℕ) (t : Tables) where
   resting (finished walk) opens walks = (rw (drop-length held), le-refl (length held))
 
   module _ (progress : Progress) (begun : Starting) (same : begun ≡ starting progress ended (length held)) where
-    pub starts-opening : begun .opens ≡ true → turn progress ended held t ≡ linesTurn ended 0 (drop headerSize held) (openStep (headerQuarter held) t .walk) (openStep (headerQuarter held) t .left)
+    pub starts-opening : begun .opens ≡ true → turn progress ended held t ≡ linesTurn ended 0 (drop headerSize held) (openStep (headerOpening held) t .walk) (openStep (headerOpening held) t .left)
     starts-opening opens = opening progress (rw same at opens)
 
     pub starts-walking : begun .walks ≡ true → turn progress ended held t ≡ linesTurn ended 0 held (begun .walk) t

@@ -10,6 +10,9 @@ use Rattle.calendar.specs.declared.Quarter.{Quarter}
 use Rattle.number.specs.Numbers.{numberIn}
 use Rattle.lines.specs.Lines.{firstLine}
 use Rattle.tables.specs.Room.{Tables}
+use Rattle.edits.specs.Formats.{openingWith}
+use Rattle.edits.specs.declared.Opening.{Opening}
+use Rattle.edits.specs.declared.format.Format.the-variants.{Pfml}
 use Rattle.meaning.specs.Before.{noQuarter}
 use Rattle.state.specs.Walks.{Walk}
 use Rattle.step.specs.Steps.{Out, openStep, lineStep, endStep}
@@ -28,6 +31,10 @@ quarterBy (refused column number) ends = noQuarter
 
 unfoldable pub headerQuarter : List ℕ → Quarter
 headerQuarter input = quarterBy (numberIn input 1 6) (eqb (getD input 6 0) 10)
+
+-- The program's files are of PFML.
+abbrev pub headerOpening : List ℕ → Opening
+headerOpening input = openingWith Pfml (headerQuarter input)
 
 -- Where a program stands between two reads: before the header; within the file; or finished, with the end call's answer.
 pub data Progress : Type 0 where
@@ -62,7 +69,7 @@ linesTurn ended zero (b ∷ rest) walk t =
 abbrev pub headerTurn : Bool → List ℕ → Tables → Turn
 headerTurn ended held t =
     if ended || leb headerSize (length held)
-    then linesTurn ended 0 (drop headerSize held) (openStep (headerQuarter held) t .walk) (openStep (headerQuarter held) t .left)
+    then linesTurn ended 0 (drop headerSize held) (openStep (headerOpening held) t .walk) (openStep (headerOpening held) t .left)
     else record { progress = waiting; left = held; tables = t }
 
 -- One turn on the bytes held.

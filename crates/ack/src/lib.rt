@@ -1,5 +1,7 @@
 // The acknowledgement of a wage file that is read piece by piece: its header, and one turn on the bytes held.
 use calendar::Quarter;
+use edits::Opening;
+use edits::format::Format;
 use number::Number;
 use state::State;
 use step::Reply;
@@ -12,7 +14,7 @@ ghost use lib.ListN.{length, drop};
 ghost use Rattle.tables.specs.Room.{tables as tablesOf};
 ghost use Rattle.state.specs.Walks.{walkOf};
 ghost use Rattle.step.specs.Moves.{takenIn};
-ghost use Rattle.ack.specs.Turns.{headerQuarter, linesTurn, turn as turnOf};
+ghost use Rattle.ack.specs.Turns.{headerQuarter, headerOpening, linesTurn, turn as turnOf};
 ghost use Rattle.ack.specs.Answers.{progressOf, turnedBy};
 ghost use Rattle.ack.specs.Starts.{starting, startingOf};
 ghost use Rattle.ack.specs.Places.{takesLine, placeBehind};
@@ -33,7 +35,7 @@ pub struct Turned {
 }
 
 // The last closed quarter that the input begins with: six digits YYYYMM and LF. What is no such header is no quarter, which the opening refuses with 70.
-pub fn header(bytes: &[u8]) -> Quarter
+fn header_quarter(bytes: &[u8]) -> Quarter
     ensures { λ r. ⌜ r ≡ headerQuarter (now (bytes .entry)) ⌝ }
 {
     let n = number::read_number(bytes, 1, 6);
@@ -49,6 +51,18 @@ pub fn header(bytes: &[u8]) -> Quarter
     Quarter {
         year: digits / 100,
         month: digits % 100,
+    }
+}
+
+// What the header opens the walk with: the format is PFML.
+pub fn header(bytes: &[u8]) -> Opening
+    ensures { λ r. ⌜ r ≡ headerOpening (now (bytes .entry)) ⌝ }
+{
+    let q = header_quarter(bytes);
+    Opening {
+        format: Format::Pfml,
+        year: q.year,
+        month: q.month,
     }
 }
 
@@ -160,7 +174,7 @@ struct Start {
     state: State,
 }
 
-// The header is read as soon as its bytes are held, or no more will come. Where no walk is under way the state is one of no quarter, which none reads.
+// The header is read as soon as its bytes are held, or no more will come. Where no walk is under way the state is one that is not opened, which none reads.
 fn start_of(progress: Progress, ended: bool, held: usize) -> Start
     ensures { λ r. ⌜ startingOf r ≡ starting (progressOf progress) ended held ⌝ }
 {
@@ -169,7 +183,7 @@ fn start_of(progress: Progress, ended: bool, held: usize) -> Start
             opens: has_header(ended, held),
             walks: false,
             taken: 0,
-            state: state::opened(state::no_quarter()),
+            state: state::opened(state::no_opening()),
         },
         Progress::Walking(st) => Start {
             opens: false,

@@ -91,7 +91,7 @@ fn is_finished(progress: Progress) -> bool {
 // The state that has frames once the file is finished.
 fn state_of(progress: Progress) -> State {
     match progress {
-        Progress::Waiting => state::opened(state::no_quarter()),
+        Progress::Waiting => state::opened(state::no_opening()),
         Progress::Walking(st) => st,
         Progress::Finished(st) => st,
     }

@@ -7,10 +7,10 @@ use native.Mathlib.Nat.{le-of-eq}
 use native.Mathlib.Omega.{arith}
 use lib.ListN.{length}
 use lib.Seq.{drop-at}
-use Rattle.calendar.specs.Quarters.{isAllowed}
-use Rattle.calendar.specs.declared.Quarter.{Quarter}
 use Rattle.lines.specs.Changed.{changed-lines}
 use Rattle.lines.specs.Lines.{linesOf}
+use Rattle.edits.specs.Formats.{mayOpen}
+use Rattle.edits.specs.declared.Opening.{Opening}
 use Rattle.edits.specs.declared.Phase.the-variants.{BeforeA, EOpen}
 use Rattle.record.specs.Blot.{blot-keeps}
 use Rattle.record.specs.Employees.{blot}
@@ -22,7 +22,7 @@ use Rattle.walk.specs.Means.{walk-means}
 use Rattle.frames.specs.Frames.{framing}
 use Rattle.ack.specs.Acknowledgement.{programRoom, fileFrames, acknowledgement}
 use Rattle.ack.specs.ProgramLaws.{header-held}
-use Rattle.ack.specs.Turns.{headerSize, headerQuarter}
+use Rattle.ack.specs.Turns.{headerSize, headerOpening}
 use Rattle.alike.specs.Alike.{Alike, AlikeLines}
 use Rattle.alike.specs.Level.{Level, shut, level-same}
 use Rattle.alike.specs.Lines.{Same, alike-ends}
@@ -47,38 +47,38 @@ module _ (one other : List ℕ) (alike : Alike one other) where
         wages-alike = alike .wages-alike;
       }
 
-  same : (room : Room) (held : Quarter) → Same room held [] [] (linesOf one) (linesOf other)
+  same : (room : Room) (held : Opening) → Same room held [] [] (linesOf one) (linesOf other)
   same room held = alike-ends room held (linesOf one) (linesOf other) [] [] lines-alike level-none (shut before-e refl refl refl)
 
   -- They mean the same, whatever the quarter and the room.
-  pub meaning-alike : (room : Room) (held : Quarter) → meaning room held one ≡ meaning room held other
+  pub meaning-alike : (room : Room) (held : Opening) → meaning room held one ≡ meaning room held other
   meaning-alike room held = same room held .0
 
-  whole-alike : (held : Quarter) (t : Tables) → wholeFile held one t ≡ wholeFile held other t
-  whole-alike held t = by (isAllowed held) refl where
-    by : (allowed : Bool) → isAllowed held ≡ allowed → wholeFile held one t ≡ wholeFile held other t
+  whole-alike : (held : Opening) (t : Tables) → wholeFile held one t ≡ wholeFile held other t
+  whole-alike held t = by (mayOpen held) refl where
+    by : (allowed : Bool) → mayOpen held ≡ allowed → wholeFile held one t ≡ wholeFile held other t
     by true e = rw e (same (roomOf t) held .1)
     by false e = rw e
 
   -- Through the calls, with the same quarter, any quarter, and the same tables, with a lending for each file: the answer, the state and every lent table at
   -- the end.
-  pub nothing-of-the-employee : (held : Quarter) (t : Tables) (lend lend' : ℕ → ℕ) → Lending lend → Lending lend'
+  pub nothing-of-the-employee : (held : Opening) (t : Tables) (lend lend' : ℕ → ℕ) → Lending lend → Lending lend'
       → walked lend held one t ≡ walked lend' held other t
   nothing-of-the-employee held t lend lend' lending lending' =
       walk-means lend lending held one t ∙ whole-alike held t ∙ sym (walk-means lend' lending' held other t)
 
   -- So the frames of that state and list are the same, in every buffer.
-  pub frames-alike : (held : Quarter) (t : Tables) (lend lend' : ℕ → ℕ) → Lending lend → Lending lend' → (out : List ℕ)
+  pub frames-alike : (held : Opening) (t : Tables) (lend lend' : ℕ → ℕ) → Lending lend → Lending lend' → (out : List ℕ)
       → framing (walked lend held one t .walk) (walked lend held one t .left .list) out
       ≡ framing (walked lend' held other t .walk) (walked lend' held other t .left .list) out
   frames-alike held t lend lend' lending lending' out =
       ap (λ (o : Out). framing (o .walk) (o .left .list) out) (nothing-of-the-employee held t lend lend' lending lending')
 
-  file-alike : (held : Quarter) → fileFrames held one ≡ fileFrames held other
+  file-alike : (held : Opening) → fileFrames held one ≡ fileFrames held other
   file-alike held = rw (meaning-alike programRoom held)
 
   -- "the acknowledgement is the same byte for byte": of the program, under any seven bytes of header.
   pub acknowledgement-alike : (header : List ℕ) → length header ≡ headerSize → acknowledgement (header ++ one) ≡ acknowledgement (header ++ other)
-  acknowledgement-alike header seven = answers one ∙ file-alike (headerQuarter header) ∙ sym (answers other) where
-    answers : (file : List ℕ) → acknowledgement (header ++ file) ≡ fileFrames (headerQuarter header) file
+  acknowledgement-alike header seven = answers one ∙ file-alike (headerOpening header) ∙ sym (answers other) where
+    answers : (file : List ℕ) → acknowledgement (header ++ file) ≡ fileFrames (headerOpening header) file
     answers file = rw (← header-held header file (le-of-eq (sym seven)), drop-at header file 7 seven)

@@ -2,18 +2,21 @@
 -- still open.
 use Prim.Native.Nat.{ℕ, _+_}
 use mathlib.Core.List.{List, []}
-use mathlib.Core.Path.{_≡_, ap}
+use mathlib.Core.Path.{_≡_, ap, ap₂, _∙_}
 use native.Mathlib.Omega.{arith}
+use lib.Dec.{leb}
 use lib.ListN.{length}
 use Rattle.calendar.specs.declared.Quarter.{Quarter}
+use Rattle.lines.specs.Lines.{Line}
+use Rattle.edits.specs.Counted.{openWith, totalsWith, openButWages, totalsButWages}
 use Rattle.edits.specs.declared.Open.{Open}
+use Rattle.edits.specs.declared.Opening.{Opening}
 use Rattle.edits.specs.declared.Phase.{Phase}
 use Rattle.edits.specs.declared.Phase.the-variants.{EOpen}
 use Rattle.edits.specs.declared.Totals.{Totals}
-use Rattle.lines.specs.Lines.{Line}
 use Rattle.record.specs.Employees.{withoutWages}
 use Rattle.record.specs.declared.said.Said.{Said}
-use Rattle.tables.specs.Room.{Room}
+use Rattle.tables.specs.Room.{Room, entriesUsed}
 use Rattle.tables.specs.Tables.{isAmong}
 use Rattle.tables.specs.declared.Employer.{Employer}
 use Rattle.meaning.specs.Before.{phaseIn, filedIn, openIn, idsUnder, totalsIn, feinsIn, entriesIn}
@@ -24,11 +27,9 @@ pub record Level (p q : List Said) : Type 0 where
   pub lines : length p ≡ length q
   pub phase : phaseIn p ≡ phaseIn q
   pub filed : filedIn p ≡ filedIn q
-  pub fein : openIn p .fein ≡ openIn q .fein
-  pub follow : openIn p .follow ≡ openIn q .follow
-  pub count : openIn p .count ≡ openIn q .count
-  pub all-count : totalsIn p .count ≡ totalsIn q .count
-  pub employers : totalsIn p .employers ≡ totalsIn q .employers
+  -- the open E, and the file, but for the wages
+  pub this : openButWages (openIn p) ≡ openButWages (openIn q)
+  pub all : totalsButWages (totalsIn p) ≡ totalsButWages (totalsIn q)
   pub used : length (idsUnder p) ≡ length (idsUnder q)
   pub feins : feinsIn p ≡ feinsIn q
   pub entries : entriesIn p ≡ entriesIn q
@@ -45,26 +46,38 @@ pub data Run (p q : List Said) (one other : List Line) : Type 0 where
       → openIn p .sum + wagesOf (under one) ≡ openIn q .sum + wagesOf (under other) → Run p q one other
 
 -- ---- what is the same
-same-open : (a b : Open) → a .fein ≡ b .fein → a .follow ≡ b .follow → a .count ≡ b .count → a .sum ≡ b .sum → a ≡ b
-same-open a b fein follow count sum = rw (fein, follow, count, sum)
+same-open : (a b : Open) → openButWages a ≡ openButWages b → a .sum ≡ b .sum → a ≡ b
+same-open a b rest sum =
+    ap (openWith a (a .count)) sum ∙ ap (λ (o : Open). openWith o (o .count) (b .sum)) rest
 
-same-totals : (a b : Totals) → a .count ≡ b .count → a .employers ≡ b .employers → a .sum ≡ b .sum → a ≡ b
-same-totals a b count employers sum = rw (count, employers, sum)
+same-totals : (a b : Totals) → totalsButWages a ≡ totalsButWages b → a .sum ≡ b .sum → a ≡ b
+same-totals a b rest sum =
+    ap (totalsWith a (a .count) (a .employers)) sum ∙ ap (λ (t : Totals). totalsWith t (t .count) (t .employers) (b .sum)) rest
 
 module _ (p q : List Said) (level : Level p q) where
   -- With the same wages under the open E all is the same.
   module _ (sum : openIn p .sum ≡ openIn q .sum) where
     pub open-alike : openIn p ≡ openIn q
-    open-alike = same-open (openIn p) (openIn q) (level .fein) (level .follow) (level .count) sum
+    open-alike = same-open (openIn p) (openIn q) (level .this) sum
 
     pub totals-alike : totalsIn p ≡ totalsIn q
-    totals-alike = same-totals (totalsIn p) (totalsIn q) (level .all-count) (level .employers) (omega (arith, level .sums, sum))
+    totals-alike = same-totals (totalsIn p) (totalsIn q) (level .all) (omega (arith, level .sums, sum))
 
-    pub context-same : (room : Room) (held : Quarter) → contextAt room held p ≡ contextAt room held q
+    pub context-same : (room : Room) (held : Opening) → contextAt room held p ≡ contextAt room held q
     context-same room held = rw (level .phase, level .filed, level .used, open-alike, totals-alike)
 
-  pub context-alike : (room : Room) (held : Quarter) → withoutWages (contextAt room held p) ≡ withoutWages (contextAt room held q)
-  context-alike room held = rw (level .phase, level .filed, level .used, level .fein, level .follow, level .count, level .all-count, level .employers)
+  pub context-alike : (room : Room) (held : Opening) → withoutWages (contextAt room held p) ≡ withoutWages (contextAt room held q)
+  context-alike room held =
+      rw (level .phase, level .filed, level .used)
+      (ap₂ (λ (this : Open) (all : Totals). record {
+        phase = phaseIn q;
+        held = held;
+        filed = filedIn q;
+        «open» = this;
+        all = all;
+        «ids_full» = leb (room .ids) (length (idsUnder q));
+        «list_full» = leb (entriesUsed room) (all .employers);
+      }) (level .this) (level .all))
 
 -- All that the records come to, but for the numbers under the open E.
 pub record Sum : Type 0 where
@@ -98,11 +111,8 @@ level-same p q e =
       lines = ap (λ (s : Sum). s .lines) e;
       phase = ap (λ (s : Sum). s .phase) e;
       filed = ap (λ (s : Sum). s .filed) e;
-      fein = ap (λ (o : Open). o .fein) this;
-      follow = ap (λ (o : Open). o .follow) this;
-      count = ap (λ (o : Open). o .count) this;
-      all-count = ap (λ (t : Totals). t .count) all;
-      employers = ap (λ (t : Totals). t .employers) all;
+      this = ap openButWages this;
+      all = ap totalsButWages all;
       used = ap (λ (s : Sum). s .used) e;
       feins = ap (λ (s : Sum). s .feins) e;
       entries = ap (λ (s : Sum). s .entries) e;

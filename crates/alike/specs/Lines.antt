@@ -9,10 +9,10 @@ use lib.ListN.{length}
 use borrow.Author.Tests.{eqb-false}
 use Rattle.laws.specs.Finding.{Finding, fine, broken}
 use Rattle.reason.specs.Numbers.{notice}
-use Rattle.calendar.specs.declared.Quarter.{Quarter}
 use Rattle.lines.specs.Lines.{Line, sizeOf}
 use Rattle.edits.specs.Edit.{firstBroken}
 use Rattle.edits.specs.declared.Context.{Context}
+use Rattle.edits.specs.declared.Opening.{Opening}
 use Rattle.edits.specs.declared.Phase.{Phase}
 use Rattle.edits.specs.declared.Phase.the-variants.{BeforeA, AfterA, EOpen, AfterT, AfterF}
 use Rattle.record.specs.Among.{judge-says}
@@ -76,7 +76,7 @@ module _ (one other : Line) (ones others : List Line) (all : AlikeLines (one ∷
       (holds-more q (record { id = idOf other; wages = wagesOn other }) before hq)
       (repeats-split earlier before same .1) (omega (arith, wages))
 
-module _ (room : Room) (held : Quarter) where
+module _ (room : Room) (held : Opening) where
   -- All that the calls leave at the end.
   abbrev left : List Said → List Line → Out
   left p lines = leaves room held (recordsOnto p lines) (meaningFrom room held p lines)

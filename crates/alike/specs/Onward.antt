@@ -1,5 +1,5 @@
 -- A record further, two files that are alike still come to the same.
-use Prim.Native.Nat.{ℕ}
+use Prim.Native.Nat.{ℕ, _+_}
 use mathlib.Core.Bool.{Bool, true, false, _||_}
 use mathlib.Core.List.{List, [], _∷_, _++_}
 use mathlib.Core.Path.{_≡_, refl, sym, ap, _∙_}
@@ -8,7 +8,10 @@ use lib.Dec.{eqb}
 use lib.ListN.{length, length-append}
 use borrow.Author.Tests.{eqb-true, ne-eqb}
 use Rattle.lines.specs.Lines.{Line}
+use Rattle.edits.specs.Counted.{openWith, totalsWith}
+use Rattle.edits.specs.declared.Open.{Open}
 use Rattle.edits.specs.declared.Phase.the-variants.{AfterA, EOpen, AfterT, AfterF}
+use Rattle.edits.specs.declared.Totals.{Totals}
 use Rattle.record.specs.declared.said.EmployeeOn.{EmployeeOn}
 use Rattle.record.specs.declared.said.EmployerOn.{EmployerOn}
 use Rattle.record.specs.declared.said.Said.{Said}
@@ -52,11 +55,8 @@ level-employee p q a b level zero =
       lines = rw (level .lines);
       phase = refl;
       filed = level .filed;
-      fein = level .fein;
-      follow = level .follow;
-      count = rw (level .count);
-      all-count = rw (level .all-count);
-      employers = level .employers;
+      this = ap (λ (this : Open). openWith this (this .count + 1) 0) (level .this);
+      all = ap (λ (all : Totals). totalsWith all (all .count + 1) (all .employers) 0) (level .all);
       used = room-alike (idsUnder p) (idsUnder q) (a .id) (b .id) (eqb (a .id) 0) refl (sym zero) (level .used);
       feins = level .feins;
       entries = level .entries;

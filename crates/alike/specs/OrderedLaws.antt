@@ -9,8 +9,8 @@ use Rattle.lines.specs.Changed.{changed-lines}
 use Rattle.lines.specs.Hidden.{MayHold}
 use Rattle.lines.specs.HiddenLaws.{equal-changed, changed-equal}
 use Rattle.lines.specs.Lines.{Line, linesOf, joined}
-use Rattle.calendar.specs.declared.Quarter.{Quarter}
 use Rattle.chars.specs.Characters.{isPermitted}
+use Rattle.edits.specs.declared.Opening.{Opening}
 use Rattle.record.specs.Blot.{blot-keeps, blot-hides, permitted-no-end, own-permitted}
 use Rattle.record.specs.Employees.{isEmployee, isPersonal, isOfEmployee, blot}
 use Rattle.tables.specs.Room.{Tables}
@@ -65,7 +65,7 @@ module _ (one other : List ℕ) where
 
   -- "With the same quarter, table lengths and first table contents, the acknowledgement is the same byte for byte, and every lent table is left the same."
   module _ (ordered : AsOrdered one other) where
-    pub nothing-of-the-employee-as-ordered : (held : Quarter) (t : Tables) (lend lend' : ℕ → ℕ) → Lending lend → Lending lend'
+    pub nothing-of-the-employee-as-ordered : (held : Opening) (t : Tables) (lend lend' : ℕ → ℕ) → Lending lend → Lending lend'
         → walked lend held one t ≡ walked lend' held other t
     nothing-of-the-employee-as-ordered = nothing-of-the-employee one other (ordered-alike ordered)
 

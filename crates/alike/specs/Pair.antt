@@ -8,8 +8,8 @@ use native.Mathlib.Omega.{arith}
 use lib.ListN.{getD, take, drop}
 use Rattle.laws.specs.Text.{bytes}
 use Rattle.lines.specs.Lines.{joined}
-use Rattle.calendar.specs.declared.Quarter.{Quarter}
 use Rattle.edits.specs.Edit.{firstBroken}
+use Rattle.edits.specs.declared.Opening.{Opening}
 use Rattle.record.specs.Employees.{blotFrom}
 use Rattle.tables.specs.Room.{Room}
 use Rattle.meaning.specs.Meaning.{accepted, meaning}
@@ -52,7 +52,7 @@ other =
 -- The first is accepted.
 pub pair-accepted : meaning room held one ≡ accepted
     (record { fein = 12345678; count = 2; cents = 123500 } ∷ record { fein = 700000000; count = 2; cents = 123500 } ∷ [])
-    (record { count = 4; employers = 2; sum = 247000 })
+    (record { count = 4; employers = 2; sum = 247000; second = 0; others = 0; notes = 0 })
 unfolding computed
 pair-accepted = refl
 
@@ -71,5 +71,5 @@ unfolding bytes
 pair-differs same = let z : _≡_ {A = ℕ} 49 51 = ap (λ (file : List ℕ). getD file 583 0) same in omega arith
 
 -- So they mean the same, and the second is accepted with the same totals: cited, not computed.
-pub pair-means : (room : Room) (held : Quarter) → meaning room held one ≡ meaning room held other
+pub pair-means : (room : Room) (held : Opening) → meaning room held one ≡ meaning room held other
 pair-means = meaning-alike one other pair-alike

@@ -132,7 +132,7 @@ fn print(framed: Framed, out: &[u8]) {
 // The state that has frames once the case is finished.
 fn state_of(progress: Progress) -> State {
     match progress {
-        Progress::Waiting => state::opened(state::no_quarter()),
+        Progress::Waiting => state::opened(state::no_opening()),
         Progress::Walking(st) => st,
         Progress::Finished(st) => st,
     }

@@ -5,8 +5,8 @@ use mathlib.Core.Path.{_≡_, refl}
 use contract.Monad.{fact}
 use denote.Ref.{now}
 use denote.Struct.Laws as LL
-use Rattle.calendar.proofs.Quarter as Q
-use Rattle.calendar.proofs.Quarter.Laws as Q′
+use Rattle.edits.proofs.Opening as O
+use Rattle.edits.proofs.Opening.Laws as O′
 use Rattle.reason.specs.Numbers.{notice}
 use Rattle.lines.specs.Lines.{firstLine}
 use Rattle.tables.specs.Room.{Tables, tables}
@@ -23,8 +23,8 @@ use Rattle.walk.specs.Calls.{wholeFile}
 use Rattle.walk.proofs.line as line-fn
 use Rattle.walk.proofs.whole as whole-fn
 use Rattle.frames.specs.Frames.{framedNumbers}
-use Rattle.capi.specs.Exports.{numbers, Told, Called, Opened, Continued, quarterOf, framingNumbers}
-use Rattle.capi.proofs.quarter as quarter-fn
+use Rattle.capi.specs.Exports.{numbers, Told, Called, Opened, Continued, openingOf, framingNumbers}
+use Rattle.capi.proofs.opening as opening-fn
 use Rattle.capi.proofs.tell as tell-fn
 use Rattle.capi.proofs.tell_no_place as tell-no-place-fn
 use Rattle.capi.proofs.tell_framed as tell-framed-fn
@@ -33,8 +33,8 @@ module _ {M : Type 1} {𝓤 : URA M} {H : Heap 𝓤} {A : Atoms 𝓤} (W : Given
   abbrev pub state-in : Callee W
   state-in = total W state-in-fn.ended (state-in-fn.clauses 𝓤 H A mem run) (λ κs a g. id⊢ 𝓤 (emp 𝓤)) (λ κs a g r ws. walkOf r ≡ walkIn (a .0 .now)) (λ κs a g r ws. refl) (λ κs. LL.val S.the-type S′.the-laws) (λ κs. LL.tells S.the-type S′.the-laws)
 
-  abbrev pub quarter : Callee W
-  quarter = total W quarter-fn.ended (quarter-fn.clauses 𝓤 H A mem run) (λ κs a g. id⊢ 𝓤 (emp 𝓤)) (λ κs a g r ws. r ≡ quarterOf (a .0) (a .1 .0)) (λ κs a g r ws. refl) (λ κs. LL.val Q.the-type Q′.the-laws) (λ κs. LL.tells Q.the-type Q′.the-laws)
+  abbrev pub opening : Callee W
+  opening = total W opening-fn.ended (opening-fn.clauses 𝓤 H A mem run) (λ κs a g. id⊢ 𝓤 (emp 𝓤)) (λ κs a g r ws. r ≡ openingOf (a .0) (a .1 .0) (a .1 .1 .0)) (λ κs a g r ws. refl) (λ κs. LL.val O.the-type O′.the-laws) (λ κs. LL.tells O.the-type O′.the-laws)
 
   -- ---- the calls of the walk
   abbrev pub lines : Callee W

@@ -1,6 +1,6 @@
 -- The calls that several walks of this crate make.
 --     reads-state      the state's words are lent to `state_in`, and come back
---     makes-quarter    `quarter`
+--     makes-opening    `opening`
 --     tells            `tell_opened` or `tell`, by its promise: the state's words and the answer's are given for good. They stand first, behind the tokens of their lifetimes
 -- Each step takes `Given`, the rules of the kit's logic, and that the table of calls is monotone under a frame.
 use Prim.Native.Nat.{ℕ, _<_, _^_}
@@ -14,9 +14,8 @@ use types.Run.{Opds}
 use denote.Builtin.{u64}
 use denote.Slice.{finally}
 use denote.Struct.Laws as LL
-use Rattle.calendar.specs.declared.Quarter.{Quarter}
-use Rattle.calendar.proofs.Quarter as Q
-use Rattle.calendar.proofs.Quarter.Laws as Q′
+use Rattle.edits.specs.declared.Opening.{Opening}
+use Rattle.edits.proofs.Opening as O
 use Rattle.tables.specs.Room as room-of
 use Rattle.tables.proofs.Walk.{URA, Heap, Atoms, Given, Memory, Routine, Fun, SProp, Lft, Share, GName, Item, Env, RefT, Is, Triple, FmC, Asked, held, made, asks, named-as, KeptShared, lends-shared, shared-back, measures, fullShare}
 use Rattle.tables.proofs.Walk.{named, w64, vint, flft, runs, ‵, _$_, uint-makes, MutSlice, ShrSlice}
@@ -28,9 +27,9 @@ use Rattle.step.specs.declared.Answer.{Answer}
 use Rattle.step.proofs.Answer as An
 use Rattle.step.proofs.Answer.Laws as An′
 use Rattle.words.specs.Words.{walkIn}
-use Rattle.walk.proofs.Values.{quarter-val, state-val, answer-val}
-use Rattle.capi.specs.Exports.{Called, quarterOf}
-use Rattle.capi.proofs.Called.{state-in, quarter, telling}
+use Rattle.walk.proofs.Values.{opening-val, state-val, answer-val}
+use Rattle.capi.specs.Exports.{Called, openingOf}
+use Rattle.capi.proofs.Called.{state-in, opening, telling}
 use Rattle.capi.proofs.Lent.{valOf}
 
 module _ {M : Type 1} {𝓤 : URA M} {H : Heap 𝓤} {A : Atoms 𝓤} {K : Type 0} {W : Given 𝓤 H A} (mem : Memory → SProp 𝓤) (run : Routine → Fun 𝓤) {Γ : List (Item 𝓤)}
@@ -43,12 +42,14 @@ module _ {M : Type 1} {𝓤 : URA M} {H : Heap 𝓤} {A : Atoms 𝓤} {K : Type 
       asks t (state-in W mem run) known fm (((ν ∷ [], tt), (fullShare, tt), tt, (named-as state δ, tt), (valOf state ∷ [], tt)), tt) tt 2 (held, tt) refl (os ν δ) (λ st _ read st-is.
       shared-back t tt u64 state (valOf state ∷ []) p $ k st read st-is))
 
-  pub makes-quarter : K → Triple 𝓤 (C f) (Asked (quarter W mem run)) → FmC 𝓤 H (W .laws) C → (year month : ℕ) → year < 2 ^ 64 → month < 2 ^ 64 → Opds K W Γ E xs (vint w64 year ∷ vint w64 month ∷ [])
-      → ((held : Quarter) → held ≡ quarterOf year month → Is Q.the-row held (quarter-val held ∷ []) → Seq K W Γ (lands C Λ E d (quarter-val held) rest q))
+  pub makes-opening : K → Triple 𝓤 (C f) (Asked (opening W mem run)) → FmC 𝓤 H (W .laws) C → (format year month : ℕ) → format < 2 ^ 64 → year < 2 ^ 64 → month < 2 ^ 64
+      → Opds K W Γ E xs (vint w64 format ∷ vint w64 year ∷ vint w64 month ∷ [])
+      → ((held : Opening) → held ≡ openingOf format year month → Is O.the-row held (opening-val held ∷ []) → Seq K W Γ (lands C Λ E d (opening-val held) rest q))
       → Seq K W Γ (runs C Λ E (seq (call f xs d) rest) q)
-  makes-quarter t known fm year month year-fits month-fits os k =
-      asks t (quarter W mem run) known fm ((tt, tt, tt, (year, (month, tt)), (vint w64 year ∷ [], (vint w64 month ∷ [], tt))), tt) tt
-      0 (made (uint-makes 𝓤 H A W w64 year _ (refl, year-fits)), (made (uint-makes 𝓤 H A W w64 month _ (refl, month-fits)), tt)) refl os (λ held _ is-held held-is. k held is-held held-is)
+  makes-opening t known fm format year month format-fits year-fits month-fits os k =
+      asks t (opening W mem run) known fm ((tt, tt, tt, (format, (year, (month, tt))), (vint w64 format ∷ [], (vint w64 year ∷ [], (vint w64 month ∷ [], tt)))), tt) tt
+      0 (made (uint-makes 𝓤 H A W w64 format _ (refl, format-fits)), (made (uint-makes 𝓤 H A W w64 year _ (refl, year-fits)), (made (uint-makes 𝓤 H A W w64 month _ (refl, month-fits)), tt))) refl os
+      (λ held _ is-held held-is. k held is-held held-is)
 
   pub tells : K → (P : Out → List ℕ → List ℕ → Called → Type 0) → Triple 𝓤 (C f) (Asked (telling W mem run P)) → FmC 𝓤 H (W .laws) C → {κ κ′ : Lft} {s s′ : Share} (a : Answer) → Is An.the-row a (answer-val a ∷ []) → (state answer : RefT (List ℕ))
       → Opds K W (‵ (flft κ s) ∷ ‵ (flft κ′ s′) ∷ ‵ (MutSlice (named 0) κ u64 .own state (valOf state ∷ [])) ∷ ‵ (MutSlice (named 0) κ′ u64 .own answer (valOf answer ∷ [])) ∷ Γ) E xs (answer-val a ∷ valOf state ∷ valOf answer ∷ [])

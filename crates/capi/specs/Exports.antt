@@ -13,6 +13,8 @@ use Rattle.lines.specs.Lines.{firstLine}
 use Rattle.chars.specs.Characters.{capitals}
 use Rattle.number.specs.Numbers.{numberIn}
 use Rattle.layout.specs.Fields.{firstIn, lastIn, noRow}
+use Rattle.edits.specs.Formats.{formatOf}
+use Rattle.edits.specs.declared.Opening.{Opening}
 use Rattle.record.specs.Judge.{rowsFor}
 use Rattle.record.specs.Kinds.{kindOf}
 use Rattle.tables.specs.Room.{Tables}
@@ -58,7 +60,7 @@ called out state answer =
       left = out .left;
     }
 
--- What a call that opens a walk promises, lent the state's words and the answer's: it leaves the words of that walk, also of one that is refused (70),
+-- What a call that opens a walk promises, lent the state's words and the answer's: it leaves the words of that walk, also of one that is refused (70, 73),
 -- and they tell it, so that the next call goes on from it.
 abbrev pub Opened : Out → List ℕ → List ℕ → Called → Type 0
 Opened out words answer has =
@@ -66,9 +68,9 @@ Opened out words answer has =
     × (wordCount ≤ length words → walkIn (has .state) ≡ out .walk)
 
 -- "70: .. each later line or end call answers 70 again and touches nothing", "71: line or end after acceptance; nothing changed",
--- "72: state unfit; nothing changed"
+-- "72: state unfit; nothing changed", and 73 does as 70 does
 abbrev pub isStill : ℕ → Bool
-isStill number = eqb number 70 || eqb number 71 || eqb number 72
+isStill number = eqb number 70 || eqb number 71 || eqb number 72 || eqb number 73
 
 -- The state's words after a line or end call. Where nothing is changed, no word is written.
 abbrev pub stateAfter : Out → List ℕ → List ℕ
@@ -84,11 +86,16 @@ Continued out words answer has =
 abbrev pub placed : Out → List ℕ → Tables → Out
 placed out words t = if ltb (length words) wordCount then carried (stays 72 (walkIn words)) t else out
 
-abbrev pub quarterOf : ℕ → ℕ → Quarter
-quarterOf year month = record { year = year; month = month }
+-- The version of what callers rely on: the words of the state and the entries of the employer list.
+abbrev pub abiVersion : ℕ
+abiVersion = 1
+
+-- The format's number comes first.
+abbrev pub openingOf : ℕ → ℕ → ℕ → Opening
+openingOf format year month = record { format = formatOf format; year = year; month = month }
 
 -- The four calls, over the state's words and the tables.
-abbrev pub openThrough : Quarter → List ℕ → Tables → Out
+abbrev pub openThrough : Opening → List ℕ → Tables → Out
 openThrough held words t = placed (openStep held t) words t
 
 abbrev pub lineThrough : List ℕ → List ℕ → Tables → Out
@@ -97,7 +104,7 @@ lineThrough bytes words t = lineStep (walkIn words) (firstLine bytes) t
 abbrev pub endThrough : List ℕ → Tables → Out
 endThrough words t = endStep (walkIn words) t
 
-abbrev pub wholeThrough : Quarter → List ℕ → List ℕ → Tables → Out
+abbrev pub wholeThrough : Opening → List ℕ → List ℕ → Tables → Out
 wholeThrough held bytes words t = placed (wholeFile held bytes t) words t
 
 -- ---- the calls that write into a lent slice

@@ -1,19 +1,21 @@
 -- Calls through words are the calls of the walk: what a call leaves, the words tell to the next. Words that tell no walk are answered 72, and
 -- nothing is changed; those that tell a walk refused with 70 are answered 70 again, and nothing is touched.
 use Prim.Native.Nat.{ℕ, _≤_}
-use mathlib.Core.Bool.{Bool, true, false, false≢true}
+use mathlib.Core.Bool.{Bool, true, false, _||_, false≢true}
 use mathlib.Core.List.{List, [], _∷_}
 use mathlib.Core.Path.{_≡_, refl, sym, ap, subst, _∙_}
 use native.Mathlib.Omega.{arith}
+use lib.Dec.{eqb}
 use lib.ListN.{length, drop, length-append, length-drop}
 use borrow.Author.Tests.{ne-eqb}
 use Rattle.laws.specs.Choice.{if_then_else_}
 use Rattle.laws.specs.Finding.{Finding, fine, broken}
 use Rattle.reason.specs.Numbers.{Notice, notice}
-use Rattle.calendar.specs.declared.Quarter.{Quarter}
 use Rattle.lines.specs.Lines.{Line, firstLine}
 use Rattle.chars.specs.Characters.{capitals}
 use Rattle.edits.specs.Edit.{firstBroken}
+use Rattle.edits.specs.Formats.{isOfOpening}
+use Rattle.edits.specs.declared.Opening.{Opening}
 use Rattle.edits.specs.declared.Phase.{Phase}
 use Rattle.edits.specs.declared.Seen.{Seen}
 use Rattle.record.specs.Judge.{Judged, refusal, passed, judge, seenOn}
@@ -31,7 +33,7 @@ use Rattle.write.specs.WritingLaws.{unfit-first}
 use Rattle.frames.specs.FrameLaws.{framing-unfit}
 use Rattle.frames.specs.Frames.{Framing, roomWithout}
 use Rattle.step.specs.MoveLaws.{line-unfit, line-fit, line-cases, end-unfit, end-fit}
-use Rattle.step.specs.Moves.{Moved, contextOf, byVerdict, byStanding, endVerdict, endStanding, endMoved}
+use Rattle.step.specs.Moves.{Moved, again, contextOf, byVerdict, byStanding, endVerdict, endStanding, endMoved}
 use Rattle.step.specs.Steps.{Out, carried, listedFein, listedId, openStep, lineStep, endStep}
 use Rattle.walk.specs.Calls.{wholeFile}
 use Rattle.capi.specs.ExportLaws.{has-place}
@@ -74,16 +76,25 @@ module _ (out : Out) (words answer : List ℕ) (has : Called) (room : wordCount 
       at true e = follow words (left-by true e) (ap (λ (c : Called). walkIn (c .state)) (left-by true e) ∙ sym (stands e)) refl
       at false e = follow (putWords (out .walk) words) (left-by false e) (promised .1 room e) (put-length (out .walk) words room)
 
--- ---- 70, 71 and 72 leave the walk as it was
+-- ---- 70 to 73 leave the walk as it was
 abbrev Stands : Walk → Moved → Type 0
 Stands walk m = isStill (m .says .number) ≡ true → m .walk ≡ walk
+
+opening-still : (number : ℕ) → isOfOpening number ≡ true → isStill number ≡ true
+opening-still number = at (eqb number 70) (eqb number 71) (eqb number 72) (eqb number 73) where
+  at : (a b c d : Bool) → a || d ≡ true → a || b || c || d ≡ true
+  at true b c d e = refl
+  at false true c d e = refl
+  at false false true d e = refl
+  at false false false d e = e
 
 edit-moves : (number : ℕ) → (1 ≤ number) × (number ≤ 65) → isStill number ≡ true → ⊥
 edit-moves number within still =
     let not-70 : number ≡ 70 → ⊥ = λ (e : number ≡ 70). omega (arith, e, within .1) in
     let not-71 : number ≡ 71 → ⊥ = λ (e : number ≡ 71). omega (arith, e, within .1) in
     let not-72 : number ≡ 72 → ⊥ = λ (e : number ≡ 72). omega (arith, e, within .1) in
-    let moves : isStill number ≡ false = rw (ne-eqb number 70 not-70, ne-eqb number 71 not-71, ne-eqb number 72 not-72) in
+    let not-73 : number ≡ 73 → ⊥ = λ (e : number ≡ 73). omega (arith, e, within .1) in
+    let moves : isStill number ≡ false = rw (ne-eqb number 70 not-70, ne-eqb number 71 not-71, ne-eqb number 72 not-72, ne-eqb number 73 not-73) in
     false≢true (sym moves ∙ still)
 
 module _ (room : Room) (walk : Walk) where
@@ -114,10 +125,10 @@ module _ (words answer : List ℕ) (t : Tables) (has : Called) (room : wordCount
   placed-follows : (out : Out) → Opened (placed out words t) words answer has → Follows out words has
   placed-follows out promised = rw⁻¹ (has-place out words t room) (opened-follows (placed out words t) words answer has room promised)
 
-  pub open-follows : (held : Quarter) → Opened (openThrough held words t) words answer has → Follows (openStep held t) words has
+  pub open-follows : (held : Opening) → Opened (openThrough held words t) words answer has → Follows (openStep held t) words has
   open-follows held = placed-follows (openStep held t)
 
-  pub whole-follows : (held : Quarter) (bytes : List ℕ) → Opened (wholeThrough held bytes words t) words answer has → Follows (wholeFile held bytes t) words has
+  pub whole-follows : (held : Opening) (bytes : List ℕ) → Opened (wholeThrough held bytes words t) words answer has → Follows (wholeFile held bytes t) words has
   whole-follows held bytes = placed-follows (wholeFile held bytes t)
 
   pub line-follows : (walk : Walk) → walkIn words ≡ walk → (bytes : List ℕ) → Continued (lineThrough bytes words t) words answer has
@@ -179,15 +190,18 @@ module _ (words answer : List ℕ) (t : Tables) (has : Called) where
     pub unknown-end : Continued (endThrough words t) words answer has → Untouched (notice 72 0 0)
     unknown-end promised = promised .0 ∙ ap after (end-unfit (roomOf t) (walkIn words) (unknown-unfit (roomOf t) words unknown))
 
-  -- Words that tell a walk refused with 70: "each later line or end call answers 70 again and touches nothing".
-  module _ (line column : ℕ) (stands : walkIn words .standing ≡ refused (notice 70 line column)) (fit : unfit (roomOf t) (walkIn words) ≡ false) where
-    pub again-line : (bytes : List ℕ) → Continued (lineThrough bytes words t) words answer has → Untouched (notice 70 line column)
+  -- Words that tell a walk refused with 70: "each later line or end call answers 70 again and touches nothing"; likewise with 73.
+  module _ (says : Notice) (opening : isOfOpening (says .number) ≡ true) (stands : walkIn words .standing ≡ refused says) (fit : unfit (roomOf t) (walkIn words) ≡ false) where
+    nothing-touched : after (again says (walkIn words)) ≡ record { number = says .number; state = words; answer = answered (numbers says 0) answer; left = t }
+    nothing-touched = rw (opening, opening-still (says .number) opening)
+
+    pub again-line : (bytes : List ℕ) → Continued (lineThrough bytes words t) words answer has → Untouched says
     again-line bytes promised =
         let first = firstLine bytes in
-        promised .0 ∙ ap after (line-fit (roomOf t) (walkIn words) (seen first) first (refused (notice 70 line column)) fit stands)
+        promised .0 ∙ ap after (line-fit (roomOf t) (walkIn words) (seen first) first (refused says) fit stands) ∙ nothing-touched
 
-    pub again-end : Continued (endThrough words t) words answer has → Untouched (notice 70 line column)
-    again-end promised = promised .0 ∙ ap after (end-fit (roomOf t) (walkIn words) (refused (notice 70 line column)) fit stands)
+    pub again-end : Continued (endThrough words t) words answer has → Untouched says
+    again-end promised = promised .0 ∙ ap after (end-fit (roomOf t) (walkIn words) (refused says) fit stands) ∙ nothing-touched
 
 -- The same of the calls that write into a lent slice: nothing is written.
 module _ (words out answer : List ℕ) (unknown : Unknown words) where

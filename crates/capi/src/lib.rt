@@ -1,7 +1,8 @@
 // The library for integrators: the calls of the walk, the writing of T and F, the building of A, E and S and the reading of their fields, and the
 // frames, over numbers and slices. C sees a slice as its pointer and its length. The caller keeps the state of a walk as words.
 use build::read;
-use calendar::Quarter;
+use edits::Opening;
+use edits::format;
 use frames::Framed;
 use number::Number;
 use reason::Refusal;
@@ -18,7 +19,7 @@ ghost use Rattle.step.specs.Moves.{noticeIn, takenIn};
 ghost use Rattle.step.specs.Steps.{outOf};
 ghost use Rattle.write.specs.Writing.{noticeIn as noticeOn};
 ghost use Rattle.frames.specs.Frames.{framedNumbers};
-ghost use Rattle.capi.specs.Exports.{numbers, Told, Opened, isStill, Continued, quarterOf, openThrough, lineThrough, endThrough, wholeThrough, writtenNumbers, filledT, filledF, filledBuilt, fieldFirst, fieldReading, fieldLength, readNumbers, readField, framingNumbers, filledFrames};
+ghost use Rattle.capi.specs.Exports.{numbers, Told, Opened, isStill, Continued, abiVersion, openingOf, openThrough, lineThrough, endThrough, wholeThrough, writtenNumbers, filledT, filledF, filledBuilt, fieldFirst, fieldReading, fieldLength, readNumbers, readField, framingNumbers, filledFrames};
 
 // What a call answers: the paper's number, line and column, and a count of bytes, or the number that a field holds.
 struct Numbers {
@@ -137,7 +138,7 @@ fn tell_opened(a: Answer, state: &mut [u64], answer: &mut [u64]) -> u64
     tell_numbers(reply_numbers(reply), answer)
 }
 
-// A line or end call that answers 70, 71 or 72 changes nothing.
+// A line or end call that answers 70 to 73 changes nothing.
 fn is_still(number: u64) -> bool
     ensures { λ r. ⌜ r ≡ isStill number ⌝ }
 {
@@ -145,6 +146,7 @@ fn is_still(number: u64) -> bool
         70 => true,
         71 => true,
         72 => true,
+        73 => true,
         _ => false,
     }
 }
@@ -171,15 +173,28 @@ fn tell_no_place(answer: &mut [u64]) -> u64
     tell_numbers(placeless(72), answer)
 }
 
-fn quarter(year: u64, month: u64) -> Quarter
-    ensures { λ r. ⌜ r ≡ quarterOf year month ⌝ }
+// The version of what callers rely on: the words of the state and the entries of the employer list.
+#[no_mangle]
+pub extern "C" fn wage_abi_version() -> u64
+    ensures { λ r. ⌜ r ≡ abiVersion ⌝ }
 {
-    Quarter { year, month }
+    1
+}
+
+fn opening(format: u64, year: u64, month: u64) -> Opening
+    ensures { λ r. ⌜ r ≡ openingOf format year month ⌝ }
+{
+    Opening {
+        format: format::format_of(format),
+        year,
+        month,
+    }
 }
 
 // Opens a walk.
 #[no_mangle]
 pub extern "C" fn wage_open(
+    format: u64,
     year: u64,
     month: u64,
     state: &mut [u64],
@@ -187,12 +202,12 @@ pub extern "C" fn wage_open(
     ids: &mut [u32],
     list: &mut [Employer],
 ) -> u64
-    ensures { λ r. ⌜ Opened (openThrough (quarterOf year month) (now (state .entry)) (tablesOf (now (ids .entry)) (now (list .entry)))) (now (state .entry)) (now (answer .entry)) (record { number = r; state = now (state .exit); answer = now (answer .exit); left = tablesOf (now (ids .exit)) (now (list .exit)) }) ⌝ }
+    ensures { λ r. ⌜ Opened (openThrough (openingOf format year month) (now (state .entry)) (tablesOf (now (ids .entry)) (now (list .entry)))) (now (state .entry)) (now (answer .entry)) (record { number = r; state = now (state .exit); answer = now (answer .exit); left = tablesOf (now (ids .exit)) (now (list .exit)) }) ⌝ }
 {
     if state.len() < words::WORDS {
         return tell_no_place(answer);
     }
-    let a = walk::open(quarter(year, month), ids, list);
+    let a = walk::open(opening(format, year, month), ids, list);
     tell_opened(a, state, answer)
 }
 
@@ -230,6 +245,7 @@ pub extern "C" fn wage_end(
 // A whole file in one slice.
 #[no_mangle]
 pub extern "C" fn wage_whole(
+    format: u64,
     year: u64,
     month: u64,
     bytes: &[u8],
@@ -238,12 +254,12 @@ pub extern "C" fn wage_whole(
     ids: &mut [u32],
     list: &mut [Employer],
 ) -> u64
-    ensures { λ r. ⌜ Opened (wholeThrough (quarterOf year month) (now (bytes .entry)) (now (state .entry)) (tablesOf (now (ids .entry)) (now (list .entry)))) (now (state .entry)) (now (answer .entry)) (record { number = r; state = now (state .exit); answer = now (answer .exit); left = tablesOf (now (ids .exit)) (now (list .exit)) }) ⌝ }
+    ensures { λ r. ⌜ Opened (wholeThrough (openingOf format year month) (now (bytes .entry)) (now (state .entry)) (tablesOf (now (ids .entry)) (now (list .entry)))) (now (state .entry)) (now (answer .entry)) (record { number = r; state = now (state .exit); answer = now (answer .exit); left = tablesOf (now (ids .exit)) (now (list .exit)) }) ⌝ }
 {
     if state.len() < words::WORDS {
         return tell_no_place(answer);
     }
-    let a = walk::whole(quarter(year, month), bytes, ids, list);
+    let a = walk::whole(opening(format, year, month), bytes, ids, list);
     tell_opened(a, state, answer)
 }
 

@@ -12,7 +12,6 @@ use Rattle.lines.specs.Cutting.{lengthTest, endTest}
 use Rattle.lines.specs.Lines.{isEnd, textOf, endOf, linesFrom}
 use Rattle.calendar.specs.Dates.{isLeap, monthDays, daysIn, isDate, inQuarter}
 use Rattle.calendar.specs.Quarters.{isFilingYear, isQuarterMonth, isAfter, isSame, currentQuarter, timingOf}
-use Rattle.calendar.specs.declared.Quarter.{Quarter}
 use Rattle.codes.specs.Codes as Codes
 use Rattle.chars.specs.Characters.{isPermitted, capitalOf, capitals, isBlank, isDigit, isLetter, isOfName}
 use Rattle.chars.specs.Columns.{columnTest, everyColumn}
@@ -23,6 +22,8 @@ use Rattle.field.specs.Classes.{classes, classOf}
 use Rattle.layout.specs.Fields.{fieldsOfA, fieldsOfE, fieldsOfS, fieldsOfT, fieldsOfF}
 use Rattle.edits.specs.Fields.{ruleList, ruleOf}
 use Rattle.edits.specs.Lists.{fieldEdits}
+use Rattle.edits.specs.declared.Opening.{Opening}
+use Rattle.edits.specs.declared.format.Format.the-variants.{Pfml}
 use Rattle.record.specs.Kinds.{kindOf}
 use Rattle.record.specs.Rules.{rulesOfA, rulesOfE, rulesOfS, rulesOfT, rulesOfF}
 use Rattle.tables.specs.Room.{Room}
@@ -34,9 +35,9 @@ use Rattle.cases.specs.Example.{Change, reads, lacks, hasMore, exampleWi
 abbrev pub room : Room
 room = record { ids = 8192; list = 1024 }
 
--- The last closed quarter: no file of a to l is of a later one.
-abbrev pub held : Quarter
-held = record { year = 2028; month = 3 }
+-- The format, and the last closed quarter: no file of a to l is of a later one.
+abbrev pub held : Opening
+held = record { format = Pfml; year = 2028; month = 3 }
 
 -- A case: its letter, a file, and what the paper says of the file.
 pub record Case : Type 0 where
@@ -64,7 +65,7 @@ computed c = meaning room held (c .file)
 
 -- "passes": the file is accepted, with its employer of this FEIN and the totals of the two employees.
 abbrev pub passes : ℕ → Outcome
-passes fein = accepted (record { fein = fein; count = 2; cents = 123500 } ∷ []) (record { count = 2; employers = 1; sum = 123500 })
+passes fein = accepted (record { fein = fein; count = 2; cents = 123500 } ∷ []) (record { count = 2; employers = 1; sum = 123500; second = 0; others = 0; notes = 0 })
 
 -- Another year, on A, E and S.
 abbrev inYear : String → List Change

@@ -1,3 +1,6 @@
+pub mod Formats
+pub mod FormatLaws
+pub mod Counted
 pub mod Edit
 pub mod Labels
 pub mod EditLaws

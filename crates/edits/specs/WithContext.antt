@@ -9,6 +9,7 @@ use Rattle.calendar.specs.declared.Quarter.{Quarter}
 use Rattle.calendar.specs.declared.Timing.{Timing}
 use Rattle.number.specs.Numbers.{valueIn}
 use Rattle.edits.specs.Edit.{Edit, rule}
+use Rattle.edits.specs.Formats.{quarterHeld}
 use Rattle.edits.specs.Own.{isFinal}
 use Rattle.edits.specs.declared.Context.{Context}
 use Rattle.edits.specs.declared.Marks.{Marks}
@@ -52,8 +53,8 @@ finalIfCurrent timing v first = rule 65 first (not (mustBeFinal timing && eqb v 
 abbrev pub ruleEdits : Rule → Marks → Context → Seen → List ℕ → ℕ → ℕ → List Edit
 ruleEdits Nothing marks around seen line first v = []
 -- "39 is for years beyond the current quarter's"
-ruleEdits YearInTime marks around seen line first v = rule 39 first (leb v (currentQuarter (around .held) .year)) ∷ []
-ruleEdits QuarterInTime marks around seen line first v = quarterInTime (timingOf (around .held) (quarterOn marks line)) first
+ruleEdits YearInTime marks around seen line first v = rule 39 first (leb v (currentQuarter (quarterHeld (around .held)) .year)) ∷ []
+ruleEdits QuarterInTime marks around seen line first v = quarterInTime (timingOf (quarterHeld (around .held)) (quarterOn marks line)) first
 -- "E and S: not A's 42."
 ruleEdits YearOfA marks around seen line first v = rule 42 first (eqb v (around .filed .year)) ∷ []
 -- "E and S: not A's 43."
@@ -70,7 +71,7 @@ ruleEdits WagesOfS marks around seen line first v = rule 57 first (eqb v (around
 ruleEdits FileCountOfS marks around seen line first v = rule 58 first (eqb v (around .all .count)) ∷ []
 ruleEdits FileCountOfE marks around seen line first v = rule 59 first (eqb v (around .all .employers)) ∷ []
 ruleEdits FileWagesOfS marks around seen line first v = rule 60 first (eqb v (around .all .sum)) ∷ []
-ruleEdits FinalIfCurrent marks around seen line first v = finalIfCurrent (timingOf (around .held) (around .filed)) v first
+ruleEdits FinalIfCurrent marks around seen line first v = finalIfCurrent (timingOf (quarterHeld (around .held)) (around .filed)) v first
 
 abbrev pub withContext : Rule → Marks → Context → Seen → List ℕ → ℕ → ℕ → List Edit
 withContext which marks around seen line first last = ruleEdits which marks around seen line first (valueIn line first last)

@@ -1,9 +1,11 @@
 // The edits of the fields of one record, given what they depend on besides the record's own bytes.
 pub mod fields;
+pub mod format;
 pub mod own;
 pub mod with_context;
 
 use calendar::Quarter;
+use format::Format;
 
 // Where a line stands: before A; after A, before any E; under an E; after a T; after F.
 pub enum Phase {
@@ -14,26 +16,45 @@ pub enum Phase {
     AfterF,
 }
 
-// The open E: its FEIN, whether it says that S records follow, and the S records under it with the sum of their wages in cents.
+// What a walk is opened with: the format of the file, and the last closed quarter.
+pub struct Opening {
+    pub format: Format,
+    pub year: u64,
+    pub month: u64,
+}
+
+// The open E: its FEIN, whether it says that S records follow, and the S records under it with the sum of their wages in cents. The other numbers are
+// those of formats to come, and zero in PFML: a second sum; the records under it that are no S, and the nearest of these; whether a note was among them;
+// and the account number as two numbers to the base 256.
 pub struct Open {
     pub fein: u64,
     pub follow: bool,
     pub count: u64,
     pub sum: u64,
+    pub second: u64,
+    pub others: u64,
+    pub nearest: u64,
+    pub noted: bool,
+    pub account_head: u64,
+    pub account_tail: u64,
 }
 
-// The whole file so far: its S records, its E records, and the sum of all wages in cents.
+// The whole file so far: its S records, its E records, and the sum of all wages in cents. The other numbers are those of formats to come, and zero in
+// PFML: the second sum, the records that are no S, and the notes.
 pub struct Totals {
     pub count: u64,
     pub employers: u64,
     pub sum: u64,
+    pub second: u64,
+    pub others: u64,
+    pub notes: u64,
 }
 
 // All that a line's edits depend on besides its own bytes, but for what was seen.
 pub struct Context {
     pub phase: Phase,
-    // The last closed quarter, and A's.
-    pub held: Quarter,
+    // What the walk was opened with, and A's quarter.
+    pub held: Opening,
     pub filed: Quarter,
     pub open: Open,
     pub all: Totals,

@@ -115,7 +115,11 @@ fn rule_edit(
 ) -> Edit
     ensures { λ r. ⌜ findingOf r ≡ firstBroken (ruleEdits rule marks around seen (capitals (now (line .entry))) first v) ⌝ }
 {
-    let held = around.held;
+    let opened = around.held;
+    let held = Quarter {
+        year: opened.year,
+        month: opened.month,
+    };
     let filed = around.filed;
     let open = around.open;
     let all = around.all;

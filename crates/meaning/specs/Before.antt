@@ -6,6 +6,7 @@ use mathlib.Core.List.{List, [], _∷_, _++_}
 use lib.Dec.{eqb}
 use Rattle.laws.specs.Choice.{if_then_else_}
 use Rattle.calendar.specs.declared.Quarter.{Quarter}
+use Rattle.edits.specs.Counted.{openWith, totalsWith}
 use Rattle.edits.specs.declared.Open.{Open}
 use Rattle.edits.specs.declared.Phase.{Phase}
 use Rattle.edits.specs.declared.Phase.the-variants.{BeforeA, AfterA, EOpen, AfterT, AfterF}
@@ -14,7 +15,7 @@ use Rattle.record.specs.declared.said.EmployeeOn.{EmployeeOn}
 use Rattle.record.specs.declared.said.EmployerOn.{EmployerOn}
 use Rattle.record.specs.declared.said.Said.{Said}
 use Rattle.record.specs.declared.said.Said.the-variants.{OfA, OfE, OfS, OfT, OfF, OfNone}
-use Rattle.tables.specs.Tables.{closed}
+use Rattle.tables.specs.Tables.{closedLast}
 use Rattle.tables.specs.declared.Employer.{Employer}
 
 -- Where a line stands: the nearest record tells. (A line of no record is never passed, so what it would leave does not matter.)
@@ -49,13 +50,37 @@ filedIn (said ∷ p) = filedAfter said (filedIn p)
 -- The open E: what it says, and the number and the wages of the S records under it. "The S records under an E are those after it with no
 -- other line between."
 abbrev pub noneOpen : Open
-noneOpen = record { fein = 0; follow = false; count = 0; sum = 0 }
+noneOpen =
+    record {
+      fein = 0;
+      follow = false;
+      count = 0;
+      sum = 0;
+      second = 0;
+      others = 0;
+      nearest = 0;
+      noted = false;
+      «account_head» = 0;
+      «account_tail» = 0;
+    }
 
 abbrev pub opened : EmployerOn → Open
-opened employer = record { fein = employer .fein; follow = employer .follow; count = 0; sum = 0 }
+opened employer =
+    record {
+      fein = employer .fein;
+      follow = employer .follow;
+      count = 0;
+      sum = 0;
+      second = 0;
+      others = 0;
+      nearest = 0;
+      noted = false;
+      «account_head» = 0;
+      «account_tail» = 0;
+    }
 
 abbrev pub withOne : EmployeeOn → Open → Open
-withOne employee this = record { fein = this .fein; follow = this .follow; count = this .count + 1; sum = this .sum + employee .wages }
+withOne employee this = openWith this (this .count + 1) (this .sum + employee .wages)
 
 abbrev pub openAfter : Said → Open → Open
 openAfter (OfA quarter) this = noneOpen
@@ -87,13 +112,13 @@ idsUnder (said ∷ p) = idsWith said (idsUnder p)
 
 -- The whole file: its S records, its E records, and the wages of all S records.
 abbrev pub noTotals : Totals
-noTotals = record { count = 0; employers = 0; sum = 0 }
+noTotals = record { count = 0; employers = 0; sum = 0; second = 0; others = 0; notes = 0 }
 
 abbrev pub oneEmployer : Totals → Totals
-oneEmployer all = record { count = all .count; employers = all .employers + 1; sum = all .sum }
+oneEmployer all = totalsWith all (all .count) (all .employers + 1) (all .sum)
 
 abbrev pub oneEmployee : EmployeeOn → Totals → Totals
-oneEmployee employee all = record { count = all .count + 1; employers = all .employers; sum = all .sum + employee .wages }
+oneEmployee employee all = totalsWith all (all .count + 1) (all .employers) (all .sum + employee .wages)
 
 abbrev pub totalsAfter : Said → Totals → Totals
 totalsAfter (OfA quarter) all = all
@@ -124,17 +149,11 @@ feinsIn (said ∷ p) = feinsWith said (feinsIn p)
 abbrev pub entryAtE : EmployerOn → Employer
 entryAtE employer = record { fein = employer .fein; count = 0; cents = 0 }
 
--- The last entry gets the count and the cents of the open E, and keeps its FEIN.
-abbrev pub closedLast : Open → List Employer → List Employer
-closedLast this [] = []
-closedLast this (entry ∷ []) = closed entry (this .count) (this .sum) ∷ []
-closedLast this (entry ∷ next ∷ entries) = entry ∷ closedLast this (next ∷ entries)
-
 abbrev pub entriesIn : List Said → List Employer
 entriesIn [] = []
 entriesIn (OfA quarter ∷ p) = entriesIn p
 entriesIn (OfE employer ∷ p) = entriesIn p ++ (entryAtE employer ∷ [])
 entriesIn (OfS employee ∷ p) = entriesIn p
-entriesIn (OfT ∷ p) = closedLast (openIn p) (entriesIn p)
+entriesIn (OfT ∷ p) = closedLast (openIn p .count) (openIn p .sum) (entriesIn p)
 entriesIn (OfF ∷ p) = entriesIn p
 entriesIn (OfNone ∷ p) = entriesIn p

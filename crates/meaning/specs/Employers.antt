@@ -9,8 +9,9 @@ use lib.ListN.{length}
 use lib.Seq.{append-snoc}
 use Rattle.reason.specs.Numbers.{notice}
 use Rattle.lines.specs.Lines.{Line, linesOf, sizeOf}
-use Rattle.calendar.specs.declared.Quarter.{Quarter}
+use Rattle.edits.specs.Counted.{openWith}
 use Rattle.edits.specs.declared.Open.{Open}
+use Rattle.edits.specs.declared.Opening.{Opening}
 use Rattle.edits.specs.declared.Phase.{Phase}
 use Rattle.edits.specs.declared.Phase.the-variants.{BeforeA, AfterA, EOpen, AfterT, AfterF}
 use Rattle.edits.specs.declared.Totals.{Totals}
@@ -22,10 +23,11 @@ use Rattle.record.specs.declared.said.EmployeeOn.{EmployeeOn}
 use Rattle.record.specs.declared.said.EmployerOn.{EmployerOn}
 use Rattle.record.specs.declared.said.Said.{Said}
 use Rattle.record.specs.declared.said.Said.the-variants.{OfA, OfE, OfS, OfT, OfF, OfNone}
+use Rattle.tables.specs.Last.{closed-behind}
 use Rattle.tables.specs.Room.{Room}
+use Rattle.tables.specs.Tables.{closedLast}
 use Rattle.tables.specs.declared.Employer.{Employer}
-use Rattle.meaning.specs.Before.{phaseIn, opened, withOne, openIn, noTotals, oneEmployer, oneEmployee, totalsIn, entryAtE, closedLast, entriesIn}
-use Rattle.meaning.specs.BeforeLaws.{closed-behind}
+use Rattle.meaning.specs.Before.{phaseIn, opened, withOne, openIn, noTotals, oneEmployer, oneEmployee, totalsIn, entryAtE, entriesIn}
 use Rattle.meaning.specs.FileLaws.{records-reversed, meaning-end, meaning-refuses, meaning-goes-on}
 use Rattle.meaning.specs.Forward.{recordsOf, employeesAfter, wagesOf, entryOf, employersOf, employeesOf, totalsOf}
 use Rattle.meaning.specs.Meaning.{contextAt, onEarlierE, underThisE, judgeAt, fileEdits, FileFinding, nothing, found, foundOn, firstOfFile, recordsOnto, accepted, outcomeBy, meaningFrom, meaning}
@@ -55,7 +57,7 @@ at-end EOpen line p entries totals e = absurd (not-refused entries totals (notic
 at-end AfterT line p entries totals e = absurd (not-refused entries totals (notice 8 line 1) (sym e))
 at-end AfterF line p entries totals e = refl
 
-module _ (room : Room) (held : Quarter) where
+module _ (room : Room) (held : Opening) where
   -- A record that passes is in its place.
   in-place : (p : List Said) (said : Said) → Fits (contextAt room held p) (onEarlierE p) (underThisE p) said → InPlace (phaseIn p) said
   in-place p (OfA quarter) fits = fits .0
@@ -91,8 +93,7 @@ module _ (room : Room) (held : Quarter) where
 -- ---- the employers
 -- The open E with the S records that are still to come under it.
 abbrev withAll : Open → List EmployeeOn → Open
-withAll this employees =
-    record { fein = this .fein; follow = this .follow; count = this .count + length employees; sum = this .sum + wagesOf employees }
+withAll this employees = openWith this (this .count + length employees) (this .sum + wagesOf employees)
 
 -- An S record is counted whether it stands before or is to come.
 with-one-more : (employee : EmployeeOn) (this : Open) (employees : List EmployeeOn)
@@ -106,17 +107,21 @@ with-one-more employee this employees =
 with-none-left : (this : Open) → withAll this [] ≡ this
 with-none-left this = simp add-zero
 
+-- The last entry done, with the count and the cents of the open E.
+abbrev closedWith : Open → List Employer → List Employer
+closedWith this entries = closedLast (this .count) (this .sum) entries
+
 -- The entry of an E, closed with all that comes under it.
 closed-with-all : (employer : EmployerOn) (employees : List EmployeeOn) (front : List Employer)
-    → closedLast (withAll (opened employer) employees) (front ++ (entryAtE employer ∷ [])) ≡ front ++ (entryOf employer employees ∷ [])
+    → closedWith (withAll (opened employer) employees) (front ++ (entryAtE employer ∷ [])) ≡ front ++ (entryOf employer employees ∷ [])
 closed-with-all employer employees front =
-    closed-behind (withAll (opened employer) employees) front (entryAtE employer) ∙ simp zero-add
+    closed-behind _ _ front (entryAtE employer) ∙ simp zero-add
 
 -- The entries before, that of an open E as its T will close it.
 abbrev toBeClosed : Phase → Open → List Employer → List Employer
 toBeClosed BeforeA this entries = entries
 toBeClosed AfterA this entries = entries
-toBeClosed EOpen this entries = closedLast this entries
+toBeClosed EOpen this entries = closedWith this entries
 toBeClosed AfterT this entries = entries
 toBeClosed AfterF this entries = entries
 
@@ -139,15 +144,28 @@ entries-at-end p (OfE employer ∷ records) placed =
     ∙ ap (λ (l : List Employer). l ++ employersOf records) (closed-with-all employer employees (entriesIn p))
     ∙ append-snoc (entriesIn p) (entryOf employer employees) (employersOf records))
 entries-at-end p (OfS employee ∷ records) placed =
-    rw (placed .0, ← with-one-more employee (openIn p) (employeesAfter records)) (entries-at-end (OfS employee ∷ p) records (placed .1))
-entries-at-end p (OfT ∷ records) placed = rw (placed .0, with-none-left (openIn p)) (entries-at-end (OfT ∷ p) records (placed .1))
+    rw (placed .0)
+    (entries-at-end (OfS employee ∷ p) records (placed .1)
+    ∙ ap (λ (this : Open). closedWith this (entriesIn p) ++ employersOf records) (with-one-more employee (openIn p) (employeesAfter records)))
+entries-at-end p (OfT ∷ records) placed =
+    rw (placed .0)
+    (entries-at-end (OfT ∷ p) records (placed .1)
+    ∙ ap (λ (this : Open). closedWith this (entriesIn p) ++ employersOf records) (sym (with-none-left (openIn p))))
 entries-at-end p (OfF ∷ records) placed = rw (placed .0) (entries-at-end (OfF ∷ p) records (placed .1))
 entries-at-end p (OfNone ∷ records) placed = absurd (placed .0)
 
 -- ---- the totals
 -- The totals of the records before and of those to come.
 abbrev together : Totals → Totals → Totals
-together a b = record { count = a .count + b .count; employers = a .employers + b .employers; sum = a .sum + b .sum }
+together a b =
+    record {
+      count = a .count + b .count;
+      employers = a .employers + b .employers;
+      sum = a .sum + b .sum;
+      second = a .second + b .second;
+      others = a .others + b .others;
+      notes = a .notes + b .notes;
+    }
 
 -- Totals of nothing add nothing.
 together-none : (all : Totals) → together all noTotals ≡ all
@@ -188,7 +206,7 @@ says-so : (f : FileFinding) (p : List Said) (entries : List Employer) (totals : 
 says-so nothing p entries totals e = (cc, cc)
 says-so (found line column number) p entries totals e = absurd (not-refused entries totals (notice number line column) (sym e))
 
-module _ (room : Room) (held : Quarter) (file : List ℕ) (entries : List Employer) (totals : Totals) where
+module _ (room : Room) (held : Opening) (file : List ℕ) (entries : List Employer) (totals : Totals) where
   -- "Then the employers reported are those of its E records, the counts and wage totals those of the S records under each."
   pub employers-are : meaning room held file ≡ accepted entries totals → (entries ≡ employersOf (recordsOf file)) × (totals ≡ totalsOf (recordsOf file))
   employers-are e =

@@ -6,9 +6,9 @@ use lib.ListN.{length}
 use Rattle.laws.specs.Finding.{Finding, fine, broken, orElse}
 use Rattle.reason.specs.Numbers.{notice}
 use Rattle.lines.specs.Lines.{Line, sizeOf}
-use Rattle.calendar.specs.declared.Quarter.{Quarter}
 use Rattle.edits.specs.Edit.{Edit, firstBroken}
 use Rattle.edits.specs.EditLaws.{first-cons, first-none}
+use Rattle.edits.specs.declared.Opening.{Opening}
 use Rattle.record.specs.Among.{judge-says, passed-size}
 use Rattle.record.specs.Judge.{refusal, passed, verdictBy, recordOn}
 use Rattle.record.specs.Place.{endEdits}
@@ -60,7 +60,7 @@ unfolding recordsOnto
 records-reversed p [] = refl
 records-reversed p (line ∷ lines) = records-reversed (recordOn line ∷ p) lines
 
-module _ (room : Room) (held : Quarter) (p : List Said) where
+module _ (room : Room) (held : Opening) (p : List Said) where
   -- ---- the end
   -- The end's edits are all that is left.
   pub meaning-end : meaningFrom room held p [] ≡ outcomeBy (foundOn (length p + 1) (firstBroken (endEdits (phaseIn p)))) p

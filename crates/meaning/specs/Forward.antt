@@ -59,4 +59,7 @@ totalsOf records =
       count = length (employeesOf records);
       employers = length (employersOf records);
       sum = wagesOf (employeesOf records);
+      second = 0;
+      others = 0;
+      notes = 0;
     }

@@ -7,9 +7,9 @@ use lib.ListN.{length}
 use Rattle.laws.specs.Finding.{Finding, fine, broken}
 use Rattle.reason.specs.Numbers.{Notice, notice}
 use Rattle.lines.specs.Lines.{Line, linesOf}
-use Rattle.calendar.specs.declared.Quarter.{Quarter}
 use Rattle.edits.specs.Edit.{Edit}
 use Rattle.edits.specs.declared.Context.{Context}
+use Rattle.edits.specs.declared.Opening.{Opening}
 use Rattle.edits.specs.declared.Totals.{Totals}
 use Rattle.record.specs.Judge.{Judged, recordOn, editsAmong, judgeAmong}
 use Rattle.record.specs.Place.{endEdits}
@@ -20,7 +20,7 @@ use Rattle.tables.specs.declared.Employer.{Employer}
 use Rattle.meaning.specs.Before.{phaseIn, filedIn, openIn, idsUnder, totalsIn, feinsIn, entriesIn}
 
 -- The context of a line: the records before it, the last closed quarter, and the room that is lent.
-abbrev pub contextAt : Room → Quarter → List Said → Context
+abbrev pub contextAt : Room → Opening → List Said → Context
 contextAt room held p =
     record {
       phase = phaseIn p;
@@ -40,11 +40,11 @@ abbrev pub underThisE : List Said → ℕ → Bool
 underThisE p id = isAmong id (idsUnder p)
 
 -- The edits of a line by the records before it.
-abbrev pub editsAt : Room → Quarter → List Said → Line → List Edit
+abbrev pub editsAt : Room → Opening → List Said → Line → List Edit
 editsAt room held p line = editsAmong (contextAt room held p) (onEarlierE p) (underThisE p) line
 
 -- Their verdict: the first broken one, or what the record says.
-abbrev pub judgeAt : Room → Quarter → List Said → Line → Judged
+abbrev pub judgeAt : Room → Opening → List Said → Line → Judged
 judgeAt room held p line = judgeAmong (contextAt room held p) (onEarlierE p) (underThisE p) line
 
 -- An edit, and the line that it is of; lines are counted from 1.
@@ -57,12 +57,12 @@ onLine line [] = []
 onLine line (edit ∷ edits) = record { line = line; edit = edit } ∷ onLine line edits
 
 -- "Lines in file order", each with its edits by the records before it; then the input's end, "Line is lines read + 1".
-unfoldable pub editsFrom : Room → Quarter → List Said → List Line → List LineEdit
+unfoldable pub editsFrom : Room → Opening → List Said → List Line → List LineEdit
 editsFrom room held p [] = onLine (length p + 1) (endEdits (phaseIn p))
 editsFrom room held p (line ∷ lines) = onLine (length p + 1) (editsAt room held p line) ++ editsFrom room held (recordOn line ∷ p) lines
 
 -- All edits of a file in the stated order.
-abbrev pub fileEdits : Room → Quarter → List ℕ → List LineEdit
+abbrev pub fileEdits : Room → Opening → List ℕ → List LineEdit
 fileEdits room held file = editsFrom room held [] (linesOf file)
 
 -- The first broken edit: its line, and what it finds there.
@@ -97,9 +97,9 @@ outcomeBy nothing p = accepted (entriesIn p) (totalsIn p)
 outcomeBy (found line column number) p = refused (notice number line column)
 
 -- The same from any records before.
-abbrev pub meaningFrom : Room → Quarter → List Said → List Line → Outcome
+abbrev pub meaningFrom : Room → Opening → List Said → List Line → Outcome
 meaningFrom room held p lines = outcomeBy (firstOfFile (editsFrom room held p lines)) (recordsOnto p lines)
 
 -- "'accepted' means the published edits found nothing, with each employer's totals below it; 'refused' gives the first line, column and reason."
-abbrev pub meaning : Room → Quarter → List ℕ → Outcome
+abbrev pub meaning : Room → Opening → List ℕ → Outcome
 meaning room held file = meaningFrom room held [] (linesOf file)

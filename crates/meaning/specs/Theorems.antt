@@ -7,9 +7,9 @@ use lib.ListN.{length}
 use Rattle.laws.specs.Finding.{Finding, fine, broken}
 use Rattle.reason.specs.Numbers.{Notice, notice}
 use Rattle.lines.specs.Lines.{Line, linesOf}
-use Rattle.calendar.specs.declared.Quarter.{Quarter}
 use Rattle.edits.specs.Edit.{Edit}
 use Rattle.edits.specs.Labels.{ByLabel, AllLabelled, labelled-append, labelled-first}
+use Rattle.edits.specs.declared.Opening.{Opening}
 use Rattle.edits.specs.declared.Totals.{Totals}
 use Rattle.record.specs.Judge.{recordOn}
 use Rattle.record.specs.Labelled.{line-labelled, end-labelled}
@@ -60,7 +60,7 @@ off-line line [] rest = refl
 off-line line (edit ∷ edits) rest = ap (λ (l : List Edit). edit ∷ l) (off-line line edits rest)
 
 -- What any edit of a file finds is told by its label.
-file-labelled : (room : Room) (held : Quarter) (p : List Said) (lines : List Line) → AllLabelled (withoutLines (editsFrom room held p lines))
+file-labelled : (room : Room) (held : Opening) (p : List Said) (lines : List Line) → AllLabelled (withoutLines (editsFrom room held p lines))
 unfolding editsFrom
 file-labelled room held p [] = end-labelled (phaseIn p)
 file-labelled room held p (line ∷ lines) =
@@ -134,7 +134,7 @@ refuses-found : (f : FileFinding) (p : List Said) (says : Notice) → outcomeBy 
 refuses-found nothing p says e = absurd (not-refused (entriesIn p) (totalsIn p) says e)
 refuses-found (found line column number) p says e = let same : notice number line column ≡ says = cc in rw (← same)
 
-module _ (room : Room) (held : Quarter) (file : List ℕ) where
+module _ (room : Room) (held : Opening) (file : List ℕ) where
   -- "A file is accepted exactly if it breaks none of the edits"
   pub accepted-iff : (NoneBroken (fileEdits room held file)
       → meaning room held file ≡ accepted (entriesIn (recordsOnto [] (linesOf file))) (totalsIn (recordsOnto [] (linesOf file))))

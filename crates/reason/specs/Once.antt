@@ -14,7 +14,7 @@ use Rattle.reason.specs.declared.Edit.{Edit}
 use Rattle.reason.specs.declared.Edit.the-variants.{Passed, Broken}
 use Rattle.reason.specs.declared.Reason.{Reason}
 use Rattle.reason.specs.declared.Refusal.{Refusal}
-use Rattle.reason.specs.declared.Reason.the-variants.{LineLength, NoLineEnd, BadCharacter, UnknownLetter, EndsBeforeA, EndsAfterA, EndsWithEOpen, EndsWithoutF, BeforeA, SecondA, SWithoutE, TWithoutE, FWithoutE, EWhileEOpen, SUnderZeroE, FWhileEOpen, SecondT, SecondF, BehindF, NotDigit, NotBlank, TextMissing, TextIndented, NotEntityCode, UnknownState, BadZip, BadZipExtension, YearTooEarly, YearTooLate, BadPeriod, PeriodTooLate, YearNotOfA, PeriodNotOfA, FeinPrefix, FeinRepeated, FeinNotOfE, BadFlag, NoDate, DateOutsideQuarter, DateNotFinal, DateMissing, IdentityPrefix, IdentityRepeated, BadNameCharacter, CountNotOfS, NoneUnderE, WagesNotOfS, FileCountNotOfS, FileCountNotOfE, FileWagesNotOfS, TooManyS, IdTableFull, EmployerListFull, FeinZero, NotFinal, BadQuarter, WalkEnded, StateUnfit, NotToBeWritten, NoneToTotal, SumTooLarge, SliceLength, BuildLength, ValueTooLong}
+use Rattle.reason.specs.declared.Reason.the-variants.{LineLength, NoLineEnd, BadCharacter, UnknownLetter, EndsBeforeA, EndsAfterA, EndsWithEOpen, EndsWithoutF, BeforeA, SecondA, SWithoutE, TWithoutE, FWithoutE, EWhileEOpen, SUnderZeroE, FWhileEOpen, SecondT, SecondF, BehindF, NotDigit, NotBlank, TextMissing, TextIndented, NotEntityCode, UnknownState, BadZip, BadZipExtension, YearTooEarly, YearTooLate, BadPeriod, PeriodTooLate, YearNotOfA, PeriodNotOfA, FeinPrefix, FeinRepeated, FeinNotOfE, BadFlag, NoDate, DateOutsideQuarter, DateNotFinal, DateMissing, IdentityPrefix, IdentityRepeated, BadNameCharacter, CountNotOfS, NoneUnderE, WagesNotOfS, FileCountNotOfS, FileCountNotOfE, FileWagesNotOfS, TooManyS, IdTableFull, EmployerListFull, FeinZero, NotFinal, BadQuarter, WalkEnded, StateUnfit, UnknownFormat, NotToBeWritten, NoneToTotal, SumTooLarge, SliceLength, BuildLength, ValueTooLong}
 
 -- "1 to 8, 10 to 20, 30 to 65, 70 to 72, 80 to 85": count numbers from first on.
 abbrev from : ℕ → ℕ → List ℕ
@@ -22,7 +22,7 @@ from first zero = []
 from first (suc count) = first ∷ from (suc first) count
 
 unfoldable pub listed : List ℕ
-listed = from 1 8 ++ from 10 11 ++ from 30 36 ++ from 70 3 ++ from 80 6
+listed = from 1 8 ++ from 10 11 ++ from 30 36 ++ from 70 4 ++ from 80 6
 
 -- The reason is found again from its number.
 pub found-again : (reason : Reason) → reasonOf (numberOf reason) ≡ reason
@@ -85,6 +85,7 @@ found-again NotFinal = refl
 found-again BadQuarter = refl
 found-again WalkEnded = refl
 found-again StateUnfit = refl
+found-again UnknownFormat = refl
 found-again NotToBeWritten = refl
 found-again NoneToTotal = refl
 found-again SumTooLarge = refl

@@ -2,7 +2,7 @@
 ghost use mathlib.Core.Path.{_≡_};
 ghost use Rattle.reason.specs.Numbers.{numberOf, reasonOf, isListed};
 
-// One reason for each number of the paper's table, and for 64 and 65 of document 02. The number of a reason is `number_of`, and `reason_of` the way back:
+// One reason for each number of the paper's table, for 64 and 65 of document 02, and for 73, which the formats bring. The number of a reason is `number_of`, and `reason_of` the way back:
 // nothing else goes by cases on the reasons.
 pub enum Reason {
     // 1: A line's length is not the record's.
@@ -121,6 +121,8 @@ pub enum Reason {
     WalkEnded,
     // 72: State unfit.
     StateUnfit,
+    // 73: At opening, a format's number that names none.
+    UnknownFormat,
     // 80: T or F not to be written now.
     NotToBeWritten,
     // 81: T with no S under an E saying 1.
@@ -211,6 +213,7 @@ pub fn number_of(reason: Reason) -> u8
         Reason::BadQuarter => 70,
         Reason::WalkEnded => 71,
         Reason::StateUnfit => 72,
+        Reason::UnknownFormat => 73,
         Reason::NotToBeWritten => 80,
         Reason::NoneToTotal => 81,
         Reason::SumTooLarge => 82,
@@ -283,6 +286,7 @@ pub fn reason_of(number: u64) -> Reason
         70 => Reason::BadQuarter,
         71 => Reason::WalkEnded,
         72 => Reason::StateUnfit,
+        73 => Reason::UnknownFormat,
         80 => Reason::NotToBeWritten,
         81 => Reason::NoneToTotal,
         82 => Reason::SumTooLarge,

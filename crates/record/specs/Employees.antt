@@ -15,6 +15,7 @@ use Rattle.chars.specs.declared.columns.Allowed.the-variants.{Permitted}
 use Rattle.number.specs.Numbers.{valueIn}
 use Rattle.field.specs.declared.class.Class.{Class}
 use Rattle.field.specs.declared.class.Class.the-variants.{Numeric, PersonName, IdentityNumber}
+use Rattle.edits.specs.Counted.{openButWages, totalsButWages}
 use Rattle.edits.specs.Edit.{Edit, firstBroken}
 use Rattle.edits.specs.Own.{own}
 use Rattle.edits.specs.declared.Context.{Context}
@@ -73,8 +74,8 @@ withoutWages here =
       phase = here .phase;
       held = here .held;
       filed = here .filed;
-      «open» = record { fein = here .open .fein; follow = here .open .follow; count = here .open .count; sum = 0 };
-      all = record { count = here .all .count; employers = here .all .employers; sum = 0 };
+      «open» = openButWages (here .open);
+      all = totalsButWages (here .all);
       «ids_full» = here .«ids_full»;
       «list_full» = here .«list_full»;
     }

@@ -24,8 +24,9 @@ use Rattle.layout.specs.Fields.{row, noRow, fieldsOfA, fieldsOfE, fieldsOfS}
 use Rattle.layout.specs.Rows.{year-of-A, period-of-A, fein-of-E, identity-of-S, fields-of-A, fields-of-E, fields-of-S}
 use Rattle.edits.specs.EditLaws.{AllFine, all-fine, all-append, not-broken}
 use Rattle.edits.specs.Fields.{Around, ruleNumber, rule-again}
-use Rattle.edits.specs.Lists.{fieldEdits}
+use Rattle.edits.specs.Formats.{quarterHeld}
 use Rattle.edits.specs.ListLaws.{field-fine}
+use Rattle.edits.specs.Lists.{fieldEdits}
 use Rattle.edits.specs.Own.{own}
 use Rattle.edits.specs.WithContext.{withContext}
 use Rattle.edits.specs.declared.Context.{Context}
@@ -47,7 +48,7 @@ use Rattle.record.specs.declared.said.Said.the-variants.{OfA, OfE, OfS, 
 
 -- What holds of the context where a record passes.
 abbrev pub Fits : Context → (ℕ → Bool) → (ℕ → Bool) → Said → Type 0
-Fits here earlier under (OfA q) = (here .phase ≡ BeforeA) × (isReportable (here .held) q ≡ true)
+Fits here earlier under (OfA q) = (here .phase ≡ BeforeA) × (isReportable (quarterHeld (here .held)) q ≡ true)
 Fits here earlier under (OfE e) =
     ((here .phase ≡ AfterA) ⊎ (here .phase ≡ AfterT)) × (here .«list_full» ≡ false) × (earlier (e .fein) ≡ false)
 Fits here earlier under (OfS s) =
@@ -150,12 +151,12 @@ new-id false seen full e f = inr (not-true full f, not-true seen e)
 
 module _ (here : Context) (seen : Seen) (text : List ℕ) where
   quarter-in-time : AllFine (fieldEdits (around here seen Transmitter) text fieldsOfA rulesOfA)
-      → isReportable (here .held) (record { year = valueIn text 2 5; month = valueIn text 19 20 }) ≡ true
+      → isReportable (quarterHeld (here .held)) (record { year = valueIn text 2 5; month = valueIn text 19 20 }) ≡ true
   quarter-in-time all =
       let a = around here seen Transmitter in
       let year = at-row a text fieldsOfA rulesOfA 1 TaxYear YearInTime 2 5 all (rw fields-of-A (omega arith)) year-of-A year-rule in
       let period = at-row a text fieldsOfA rulesOfA 4 Period QuarterInTime 19 20 all (rw fields-of-A (omega arith)) period-of-A period-rule in
-      reportable (here .held) (record { year = valueIn text 2 5; month = valueIn text 19 20 })
+      reportable (quarterHeld (here .held)) (record { year = valueIn text 2 5; month = valueIn text 19 20 })
       (unless-fine _ 2 38 (year .0 .1 .0)) (period-fine text 19 20 (period .0 .0)) (unless-fine _ 19 41 (period .1 .0))
 
   new-fein : AllFine (fieldEdits (around here seen Employer) text fieldsOfE rulesOfE) → (here .«list_full» ≡ false) × (seen .fein ≡ false)

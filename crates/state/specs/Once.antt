@@ -6,6 +6,7 @@ use Rattle.reason.specs.Numbers.{Notice, noticeOf}
 use Rattle.reason.specs.Once.{same-notice}
 use Rattle.calendar.specs.declared.Quarter.{Quarter}
 use Rattle.edits.specs.declared.Open.{Open}
+use Rattle.edits.specs.declared.Opening.{Opening}
 use Rattle.edits.specs.declared.Phase.{Phase}
 use Rattle.edits.specs.declared.Totals.{Totals}
 use Rattle.state.specs.Walks.{reading, accepted, refused, Walk, standingOf, walkOf}
@@ -33,11 +34,11 @@ same-standing (Refused r) (Reading p) e = absurd (reading-refused p (noticeOf r)
 same-standing (Refused r) Accepted e = absurd (accepted-refused (noticeOf r) (sym e))
 same-standing (Refused r) (Refused s) e = let same : noticeOf r ≡ noticeOf s = cc in ap Refused (same-notice r s same)
 
-abbrev state : Stage → ℕ → Quarter → Quarter → Open → Totals → ℕ → State
+abbrev state : Stage → ℕ → Opening → Quarter → Open → Totals → ℕ → State
 state stage lines held filed this all used =
     record { stage = stage; lines = lines; held = held; filed = filed; «open» = this; all = all; used = used }
 
-same-parts : (s t : Stage) (l m : ℕ) (h i f g : Quarter) (o p : Open) (a b : Totals) (u v : ℕ) → s ≡ t → l ≡ m → h ≡ i → f ≡ g → o ≡ p → a ≡ b → u ≡ v
+same-parts : (s t : Stage) (l m : ℕ) (h i : Opening) (f g : Quarter) (o p : Open) (a b : Totals) (u v : ℕ) → s ≡ t → l ≡ m → h ≡ i → f ≡ g → o ≡ p → a ≡ b → u ≡ v
     → state s l h f o a u ≡ state t m i g p b v
 same-parts s t l m h i f g o p a b u v e1 e2 e3 e4 e5 e6 e7 = rw (e1, e2, e3, e4, e5, e6, e7)
 

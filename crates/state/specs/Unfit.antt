@@ -2,11 +2,14 @@
 use Prim.Native.Nat.{ℕ, _*_}
 use mathlib.Core.Bool.{Bool, true, false, not, _&&_, _||_}
 use lib.Dec.{leb, ltb, eqb}
-use Rattle.calendar.specs.Quarters.{isAllowed, isReportable}
+use Rattle.calendar.specs.Quarters.{isReportable}
 use Rattle.calendar.specs.declared.Quarter.{Quarter}
+use Rattle.edits.specs.Formats.{isKnown, quarterHeld, mayOpen, isOfOpening}
 use Rattle.edits.specs.declared.Open.{Open}
+use Rattle.edits.specs.declared.Opening.{Opening}
 use Rattle.edits.specs.declared.Phase.the-variants.{BeforeA, AfterA, EOpen, AfterT, AfterF}
 use Rattle.edits.specs.declared.Totals.{Totals}
+use Rattle.edits.specs.declared.format.Format.{Format}
 use Rattle.record.specs.Place.{mostEmployees}
 use Rattle.tables.specs.Room.{Room, entriesUsed}
 use Rattle.state.specs.Walks.{Standing, reading, accepted, refused, Walk}
@@ -44,24 +47,24 @@ isOpen accepted = false
 isOpen (refused notice) = false
 
 -- "A refusal from 1 to 63, or a later number for an edit of a record", which are 64 and 65, ".. After these and 70 the state keeps number and place":
--- a number that a refusal leaves in the state.
-unfoldable pub isLeft : ℕ → Bool
-isLeft number = leb 1 number && leb number 65 || eqb number 70
+-- a number that a refusal leaves in the state. An opening that is refused leaves its number with any format, the others are left with one that is known.
+unfoldable pub isLeft : Format → ℕ → Bool
+isLeft format number = isOfOpening number || isKnown format && (leb 1 number && leb number 65)
 
 -- "in a walk not refused, the quarter held, or A's once A is read, is none that this paper allows"; with (v) of document 02, "72 reads
--- A's quarter likewise": closed or current
-abbrev pub bothUnfit : Quarter → Quarter → Bool
-bothUnfit held filed = not (isAllowed held) || not (isReportable held filed)
+-- A's quarter likewise": closed or current. Likewise its format is one that is known.
+abbrev pub bothUnfit : Opening → Quarter → Bool
+bothUnfit held filed = not (mayOpen held) || not (isReportable (quarterHeld held) filed)
 
-abbrev pub standingUnfit : Standing → Quarter → Quarter → Bool
-standingUnfit (reading BeforeA) held filed = not (isAllowed held)
+abbrev pub standingUnfit : Standing → Opening → Quarter → Bool
+standingUnfit (reading BeforeA) held filed = not (mayOpen held)
 standingUnfit (reading AfterA) held filed = bothUnfit held filed
 standingUnfit (reading EOpen) held filed = bothUnfit held filed
 standingUnfit (reading AfterT) held filed = bothUnfit held filed
 standingUnfit (reading AfterF) held filed = bothUnfit held filed
 standingUnfit accepted held filed = bothUnfit held filed
 -- "a refused walk's number is none that a refusal leaves in the state"
-standingUnfit (refused notice) held filed = not (isLeft (notice .number))
+standingUnfit (refused notice) held filed = not (isLeft (held .format) (notice .number))
 
 -- "72 comes first of all and exactly if"
 unfoldable pub unfit : Room → Walk → Bool

@@ -3,11 +3,16 @@ use Prim.Native.Nat.{ℕ, _*_, _≤_}
 use mathlib.Core.Bool.{Bool, true, false, _&&_, _||_, false≢true}
 use mathlib.Core.Path.{_≡_, refl, sym, ap, _∙_}
 use native.Mathlib.Omega.{arith}
-use lib.Dec.{ltb, eqb}
+use lib.Dec.{leb, ltb, eqb}
 use borrow.Author.Tests.{le-leb, le-ltb, ltb-false, ne-eqb, eqb-false}
+use Rattle.laws.specs.Choice.{if_then_else_}
 use Rattle.reason.specs.Numbers.{Notice}
+use Rattle.calendar.specs.Quarters.{isAllowed}
+use Rattle.edits.specs.Formats.{isKnown, quarterHeld, openingNumber, isOfOpening}
 use Rattle.edits.specs.declared.Open.{Open}
+use Rattle.edits.specs.declared.Opening.{Opening}
 use Rattle.edits.specs.declared.Totals.{Totals}
+use Rattle.edits.specs.declared.format.Format.{Format}
 use Rattle.record.specs.Place.{mostEmployees}
 use Rattle.tables.specs.Room.{Room, entriesUsed}
 use Rattle.state.specs.Unfit.{mostLines, mostWages, mostFein, fileUnfit, openUnfit, isOpen, isLeft, standingUnfit, unfit}
@@ -149,29 +154,45 @@ module _ (room : Room) (walk : Walk) where
   unfit-standing e f = rw (e, f)
 
 -- ---- the numbers that a refusal leaves
-pub left-number : (number : ℕ) → (1 ≤ number) × (number ≤ 65) → isLeft number ≡ true
+pub left-number : (format : Format) (number : ℕ) → isKnown format ≡ true → (1 ≤ number) × (number ≤ 65) → isLeft format number ≡ true
 unfolding isLeft
-left-number number within = rw (le-leb 1 number (within .0), le-leb number 65 (within .1))
+left-number format number known within =
+    rw (
+      ne-eqb number 70 (λ e. omega arith),
+      ne-eqb number 73 (λ e. omega arith),
+      known,
+      le-leb 1 number (within .0),
+      le-leb number 65 (within .1),
+    )
 
-pub left-seventy : isLeft 70 ≡ true
+pub left-opening : (held : Opening) → isLeft (held .format) (openingNumber held) ≡ true
 unfolding isLeft
-left-seventy = refl
+left-opening held = at (isAllowed (quarterHeld held)) where
+  at : (allowed : Bool) → isOfOpening (if allowed then 73 else 70) || isKnown (held .format) && (leb 1 (if allowed then 73 else 70) && leb (if allowed then 73 else 70) 65) ≡ true
+  at true = refl
+  at false = refl
 
-pub left-not-72 : (number : ℕ) → isLeft number ≡ true → number ≡ 72 → ⊥
+pub not-left : (format : Format) (number : ℕ) → isOfOpening number || (leb 1 number && leb number 65) ≡ false → isLeft format number ≡ true → ⊥
 unfolding isLeft
-left-not-72 number e same = false≢true (ap isLeft (sym same) ∙ e)
+not-left format number out e = false≢true (sym (none (isOfOpening number) (isKnown format) (leb 1 number && leb number 65) out) ∙ e) where
+  none : (a b c : Bool) → a || c ≡ false → a || b && c ≡ false
+  none true b c e = e
+  none false true c e = e
+  none false false c e = refl
+
+pub left-not-72 : (format : Format) (number : ℕ) → isLeft format number ≡ true → number ≡ 72 → ⊥
+left-not-72 format number e same = not-left format number (rw same) e
+
+pub left-not-0 : (format : Format) (number : ℕ) → isLeft format number ≡ true → number ≡ 0 → ⊥
+left-not-0 format number e same = not-left format number (rw same) e
 
 -- A refused state is fit where its number is one of them.
-pub refused-fit : (room : Room) (says : Notice) → isLeft (says .number) ≡ true → unfit room (refusedWalk says) ≡ false
-refused-fit room says e =
-    sound-fit room (refusedWalk says)
+pub refused-fit : (room : Room) (format : Format) (says : Notice) → isLeft format (says .number) ≡ true → unfit room (refusedWalk format says) ≡ false
+refused-fit room format says e =
+    sound-fit room (refusedWalk format says)
     (record { employers = omega arith; many = omega arith; sum = omega arith; lines-read = omega arith })
     (λ o. absurd (false≢true o))
     (rw e)
-
-pub left-not-0 : (number : ℕ) → isLeft number ≡ true → number ≡ 0 → ⊥
-unfolding isLeft
-left-not-0 number e same = false≢true (ap isLeft (sym same) ∙ e)
 
 -- "A table the call isn't lent isn't compared": what is fit for a call that is lent tables is fit for one that is lent none.
 pub fit-without : (room : Room) (walk : Walk) → unfit room walk ≡ false → unfit (record { ids = walk .used; list = walk .all .employers }) walk ≡ false

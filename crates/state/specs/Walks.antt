@@ -2,10 +2,14 @@
 use Prim.Native.Nat.{ℕ}
 use Rattle.reason.specs.Numbers.{Notice, noticeOf}
 use Rattle.calendar.specs.declared.Quarter.{Quarter}
+use Rattle.edits.specs.Formats.{openingWith}
 use Rattle.edits.specs.declared.Open.{Open}
+use Rattle.edits.specs.declared.Opening.{Opening}
 use Rattle.edits.specs.declared.Phase.{Phase}
 use Rattle.edits.specs.declared.Phase.the-variants.{BeforeA, AfterF}
 use Rattle.edits.specs.declared.Totals.{Totals}
+use Rattle.edits.specs.declared.format.Format.{Format}
+use Rattle.edits.specs.declared.format.Format.the-variants.{Unknown}
 use Rattle.meaning.specs.Before.{noQuarter, noneOpen, noTotals}
 use Rattle.state.specs.declared.Stage.{Stage}
 use Rattle.state.specs.declared.Stage.the-variants.{Reading, Accepted, Refused}
@@ -21,8 +25,8 @@ pub record Walk : Type 0 where
   pub standing : Standing
   -- lines read: "a refused line isn't counted as read"
   pub lines : ℕ
-  -- the last closed quarter, and A's
-  pub held : Quarter
+  -- what the walk was opened with, and A's quarter
+  pub held : Opening
   pub filed : Quarter
   -- the open E, and the whole file
   pub «open» : Open
@@ -54,8 +58,12 @@ walkOf st =
       used = st .used;
     }
 
+-- What a walk that is not opened has in its place.
+abbrev pub noOpening : Opening
+noOpening = openingWith Unknown noQuarter
+
 -- A walk that has read nothing.
-abbrev pub openedWalk : Quarter → Walk
+abbrev pub openedWalk : Opening → Walk
 openedWalk held =
     record {
       standing = reading BeforeA;
@@ -67,13 +75,13 @@ openedWalk held =
       used = 0;
     }
 
--- "After these and 70 the state keeps number and place, every count and sum zero, no E open."
-abbrev pub refusedWalk : Notice → Walk
-refusedWalk notice =
+-- "After these and 70 the state keeps number and place, every count and sum zero, no E open." It keeps its format too.
+abbrev pub refusedWalk : Format → Notice → Walk
+refusedWalk format notice =
     record {
       standing = refused notice;
       lines = 0;
-      held = noQuarter;
+      held = openingWith format noQuarter;
       filed = noQuarter;
       «open» = noneOpen;
       all = noTotals;

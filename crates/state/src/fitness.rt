@@ -3,10 +3,14 @@ use crate::Stage;
 use crate::State;
 use calendar::Quarter;
 use edits::Open;
+use edits::Opening;
 use edits::Phase;
 use edits::Totals;
+use edits::format;
+use edits::format::Format;
 ghost use Prim.Native.Nat.{_≤_};
 ghost use mathlib.Core.Path.{_≡_};
+ghost use Rattle.edits.specs.Formats.{isOfOpening};
 ghost use Rattle.record.specs.Place.{mostEmployees};
 ghost use Rattle.tables.specs.Room.{entriesUsed};
 ghost use Rattle.state.specs.Walks.{reading, walkOf, standingOf};
@@ -88,33 +92,50 @@ pub fn is_open(stage: Stage) -> bool
     }
 }
 
-// Whether a number is one that a refusal leaves in the state.
-fn is_left(number: u8) -> bool
-    ensures { λ r. ⌜ r ≡ isLeft number ⌝ }
+// Whether a number is one of an opening that was refused.
+pub fn is_of_opening(number: u8) -> bool
+    ensures { λ r. ⌜ r ≡ isOfOpening number ⌝ }
 {
-    if number < 1 {
-        return false;
-    }
-    if number <= 65 {
+    if number == 70 {
         return true;
     }
-    number == 70
+    number == 73
 }
 
-fn quarters_unfit(held: Quarter, filed: Quarter) -> bool
+// Whether a number is one that a refusal leaves in the state of a walk of this format.
+fn is_left(format: Format, number: u8) -> bool
+    ensures { λ r. ⌜ r ≡ isLeft format number ⌝ }
+{
+    if is_of_opening(number) {
+        return true;
+    }
+    if format::is_known(format) {
+        if number < 1 {
+            return false;
+        }
+        return number <= 65;
+    }
+    false
+}
+
+fn quarters_unfit(held: Opening, filed: Quarter) -> bool
     ensures { λ r. ⌜ r ≡ bothUnfit held filed ⌝ }
 {
-    if calendar::is_allowed(held) {
-        return !calendar::is_reportable(held, filed);
+    let closed = Quarter {
+        year: held.year,
+        month: held.month,
+    };
+    if format::may_open(held) {
+        return !calendar::is_reportable(closed, filed);
     }
     true
 }
 
-fn phase_unfit(phase: Phase, held: Quarter, filed: Quarter) -> bool
+fn phase_unfit(phase: Phase, held: Opening, filed: Quarter) -> bool
     ensures { λ r. ⌜ r ≡ standingUnfit (reading phase) held filed ⌝ }
 {
     match phase {
-        Phase::BeforeA => !calendar::is_allowed(held),
+        Phase::BeforeA => !format::may_open(held),
         Phase::AfterA => quarters_unfit(held, filed),
         Phase::EOpen => quarters_unfit(held, filed),
         Phase::AfterT => quarters_unfit(held, filed),
@@ -122,15 +143,16 @@ fn phase_unfit(phase: Phase, held: Quarter, filed: Quarter) -> bool
     }
 }
 
-fn stage_unfit(stage: Stage, held: Quarter, filed: Quarter) -> bool
+fn stage_unfit(stage: Stage, held: Opening, filed: Quarter) -> bool
     ensures { λ r. ⌜ r ≡ standingUnfit (standingOf stage) held filed ⌝ }
 {
     match stage {
         Stage::Reading(phase) => phase_unfit(phase, held, filed),
         Stage::Accepted => quarters_unfit(held, filed),
         Stage::Refused(refusal) => {
+            let format = held.format;
             let reason = refusal.reason;
-            !is_left(reason::number_of(reason))
+            !is_left(format, reason::number_of(reason))
         }
     }
 }

@@ -3,13 +3,15 @@ pub mod fitness;
 
 use calendar::Quarter;
 use edits::Open;
+use edits::Opening;
 use edits::Phase;
 use edits::Totals;
+use edits::format::Format;
 use reason::Refusal;
 ghost use mathlib.Core.Path.{_≡_};
 ghost use Rattle.reason.specs.Numbers.{noticeOf};
 ghost use Rattle.meaning.specs.Before.{noQuarter, noneOpen, noTotals};
-ghost use Rattle.state.specs.Walks.{phaseOf, standingOf, walkOf, openedWalk, refusedWalk};
+ghost use Rattle.state.specs.Walks.{phaseOf, noOpening, standingOf, walkOf, openedWalk, refusedWalk};
 
 // Where a walk stands: among the records of the file; at its accepted end; or refused, with the place and the reason.
 pub enum Stage {
@@ -22,8 +24,8 @@ pub struct State {
     pub stage: Stage,
     // Lines read; a refused line is not counted.
     pub lines: u32,
-    // The last closed quarter, and A's.
-    pub held: Quarter,
+    // What the walk was opened with, and A's quarter.
+    pub held: Opening,
     pub filed: Quarter,
     pub open: Open,
     pub all: Totals,
@@ -48,6 +50,17 @@ pub fn no_quarter() -> Quarter
     Quarter { year: 0, month: 0 }
 }
 
+// What a walk that is not opened has in its place.
+pub fn no_opening() -> Opening
+    ensures { λ r. ⌜ r ≡ noOpening ⌝ }
+{
+    Opening {
+        format: Format::Unknown,
+        year: 0,
+        month: 0,
+    }
+}
+
 pub fn none_open() -> Open
     ensures { λ r. ⌜ r ≡ noneOpen ⌝ }
 {
@@ -56,6 +69,12 @@ pub fn none_open() -> Open
         follow: false,
         count: 0,
         sum: 0,
+        second: 0,
+        others: 0,
+        nearest: 0,
+        noted: false,
+        account_head: 0,
+        account_tail: 0,
     }
 }
 
@@ -66,11 +85,14 @@ fn no_totals() -> Totals
         count: 0,
         employers: 0,
         sum: 0,
+        second: 0,
+        others: 0,
+        notes: 0,
     }
 }
 
 // The state of a walk that has read nothing.
-pub fn opened(held: Quarter) -> State
+pub fn opened(held: Opening) -> State
     ensures { λ r. ⌜ walkOf r ≡ openedWalk held ⌝ }
 {
     State {
@@ -84,14 +106,18 @@ pub fn opened(held: Quarter) -> State
     }
 }
 
-// The state that a refusal leaves: its place and reason, every other number zero.
-pub fn refused(refusal: Refusal) -> State
-    ensures { λ r. ⌜ walkOf r ≡ refusedWalk (noticeOf refusal) ⌝ }
+// The state that a refusal leaves: the format, its place and reason, every other number zero.
+pub fn refused(format: Format, refusal: Refusal) -> State
+    ensures { λ r. ⌜ walkOf r ≡ refusedWalk format (noticeOf refusal) ⌝ }
 {
     State {
         stage: Stage::Refused(refusal),
         lines: 0,
-        held: no_quarter(),
+        held: Opening {
+            format,
+            year: 0,
+            month: 0,
+        },
         filed: no_quarter(),
         open: none_open(),
         all: no_totals(),

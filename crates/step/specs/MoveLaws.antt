@@ -2,15 +2,14 @@
 use mathlib.Core.Bool.{Bool, true, false}
 use mathlib.Core.Path.{_≡_, ap}
 use Rattle.laws.specs.Choice.{if_then_else_}
-use Rattle.calendar.specs.Quarters.{isAllowed}
-use Rattle.calendar.specs.declared.Quarter.{Quarter}
-use Rattle.reason.specs.Numbers.{notice}
 use Rattle.lines.specs.Lines.{Line}
-use Rattle.edits.specs.declared.Seen.{Seen}
 use Rattle.tables.specs.Room.{Room}
+use Rattle.edits.specs.Formats.{mayOpen}
+use Rattle.edits.specs.declared.Opening.{Opening}
+use Rattle.edits.specs.declared.Seen.{Seen}
 use Rattle.state.specs.Unfit.{unfit}
 use Rattle.state.specs.Walks.{Standing, Walk, openedWalk, refusedWalk}
-use Rattle.step.specs.Moves.{Moved, allWell, stays, byStanding, lineSeen, endStanding, endMoved, openMoved}
+use Rattle.step.specs.Moves.{Moved, allWell, stays, byStanding, lineSeen, endStanding, endMoved, openingNotice, openMoved}
 use Rattle.step.specs.declared.Change.the-variants.{Nothing, Clear}
 
 module _ (room : Room) (walk : Walk) where
@@ -47,13 +46,13 @@ module _ (room : Room) (walk : Walk) where
   unfolding endMoved
   end-fit standing e stands = rw e (ap (endStanding walk) stands)
 
-module _ (held : Quarter) where
-  pub open-allowed : isAllowed held ≡ true
+module _ (held : Opening) where
+  pub open-allowed : mayOpen held ≡ true
       → openMoved held ≡ record { says = allWell; taken = 0; walk = openedWalk held; change = Clear }
   unfolding openMoved
   open-allowed e = rw e
 
-  pub open-refused : isAllowed held ≡ false
-      → openMoved held ≡ record { says = notice 70 0 0; taken = 0; walk = refusedWalk (notice 70 0 0); change = Nothing }
+  pub open-refused : mayOpen held ≡ false
+      → openMoved held ≡ record { says = openingNotice held; taken = 0; walk = refusedWalk (held .format) (openingNotice held); change = Nothing }
   unfolding openMoved
   open-refused e = rw e

@@ -5,13 +5,14 @@ use lib.Dec.{leb, eqb}
 use Rattle.laws.specs.Choice.{if_then_else_}
 use Rattle.laws.specs.Finding.{Finding, fine, broken}
 use Rattle.reason.specs.Numbers.{Notice, notice, noticeOf}
-use Rattle.calendar.specs.Quarters.{isAllowed}
 use Rattle.calendar.specs.declared.Quarter.{Quarter}
 use Rattle.lines.specs.Lines.{Line}
 use Rattle.chars.specs.Characters.{capitals}
 use Rattle.edits.specs.Edit.{firstBroken}
+use Rattle.edits.specs.Formats.{mayOpen, openingNumber, isOfOpening}
 use Rattle.edits.specs.declared.Context.{Context}
 use Rattle.edits.specs.declared.Open.{Open}
+use Rattle.edits.specs.declared.Opening.{Opening}
 use Rattle.edits.specs.declared.Phase.{Phase}
 use Rattle.edits.specs.declared.Seen.{Seen}
 use Rattle.edits.specs.declared.Totals.{Totals}
@@ -64,9 +65,10 @@ movedBy m =
 abbrev pub stays : ℕ → Walk → Moved
 stays number walk = record { says = notice number 0 0; taken = 0; walk = walk; change = Nothing }
 
--- "is answered again, both zeroed again, to each later line or end call"; after 70 "each later line or end call answers 70 again and touches nothing"
+-- "is answered again, both zeroed again, to each later line or end call"; after 70 "each later line or end call answers 70 again and touches nothing",
+-- and 73 does as 70 does
 abbrev pub again : Notice → Walk → Moved
-again says walk = record { says = says; taken = 0; walk = walk; change = if eqb (says .number) 70 then Nothing else Clear }
+again says walk = record { says = says; taken = 0; walk = walk; change = if isOfOpening (says .number) then Nothing else Clear }
 
 -- "A refusal from 1 to 63, or a later number for an edit of a record, zeroes both, ends the walk". The line is the one behind those read.
 abbrev pub refuses : Walk → ℕ → ℕ → Moved
@@ -74,7 +76,7 @@ refuses walk column number =
     record {
       says = notice number (walk .lines + 1) column;
       taken = 0;
-      walk = refusedWalk (notice number (walk .lines + 1) column);
+      walk = refusedWalk (walk .held .format) (notice number (walk .lines + 1) column);
       change = Clear;
     }
 
@@ -185,9 +187,12 @@ unfoldable pub endMoved : Room → Walk → Moved
 endMoved room walk = if unfit room walk then stays 72 walk else endStanding walk (walk .standing)
 
 -- ---- the opening
--- "70: bad quarter at opening, line 0, column 0; nothing touched". "Opening zeroes both tables, every entry."
-unfoldable pub openMoved : Quarter → Moved
+-- "70: bad quarter at opening, line 0, column 0; nothing touched", and 73 likewise. "Opening zeroes both tables, every entry."
+abbrev pub openingNotice : Opening → Notice
+openingNotice held = notice (openingNumber held) 0 0
+
+unfoldable pub openMoved : Opening → Moved
 openMoved held =
-    if isAllowed held
+    if mayOpen held
     then record { says = allWell; taken = 0; walk = openedWalk held; change = Clear }
-    else record { says = notice 70 0 0; taken = 0; walk = refusedWalk (notice 70 0 0); change = Nothing }
+    else record { says = openingNotice held; taken = 0; walk = refusedWalk (held .format) (openingNotice held); change = Nothing }

@@ -4,11 +4,11 @@ use mathlib.Core.Bool.{Bool}
 use mathlib.Core.List.{List}
 use lib.ListN.{length, take, set, replicate}
 use Rattle.reason.specs.Numbers.{Notice}
-use Rattle.calendar.specs.declared.Quarter.{Quarter}
 use Rattle.lines.specs.Lines.{Line}
 use Rattle.tables.specs.Room.{Tables, tables, roomOf}
 use Rattle.tables.specs.Tables.{noEmployer, opened, wiped, isAmong, closedAt, feinsOf}
 use Rattle.tables.specs.declared.Employer.{Employer}
+use Rattle.edits.specs.declared.Opening.{Opening}
 use Rattle.state.specs.Walks.{Walk, walkOf}
 use Rattle.step.specs.Moves.{Moved, noticeIn, takenIn, lineMoved, endMoved, openMoved}
 use Rattle.step.specs.declared.Answer.{Answer}
@@ -50,7 +50,7 @@ listedFein walk t fein = isAmong fein (feinsOf (take (walk .all .employers) (t .
 abbrev pub listedId : Walk → Tables → ℕ → Bool
 listedId walk t id = isAmong id (take (walk .used) (t .ids))
 
-abbrev pub openStep : Quarter → Tables → Out
+abbrev pub openStep : Opening → Tables → Out
 openStep held t = carried (openMoved held) t
 
 abbrev pub lineStep : Walk → Line → Tables → Out

@@ -3,7 +3,9 @@ pub mod line;
 mod reading;
 
 use calendar::Quarter;
+use edits::Opening;
 use edits::Phase;
+use edits::format;
 use reason::Edit;
 use reason::Reason;
 use reason::Refusal;
@@ -13,6 +15,7 @@ use state::fitness;
 ghost use Prim.Native.Nat.{_≤_};
 ghost use mathlib.Core.Path.{_≡_};
 ghost use Rattle.reason.specs.Numbers.{numberOf, noticeOf};
+ghost use Rattle.edits.specs.Formats.{openingNumber};
 ghost use Rattle.state.specs.Unfit.{mostLines};
 ghost use Rattle.state.specs.Walks.{walkOf, reading};
 ghost use Rattle.step.specs.Moves.{takenIn, movedBy, stays as staysOf, again as againOf, refuses, accepts, endStanding, endMoved, openMoved};
@@ -74,12 +77,12 @@ fn stays(st: State, reason: Reason) -> Move
     }
 }
 
-// A refused walk: answered again, both tables zeroed again, but for 70.
+// A refused walk: answered again, both tables zeroed again, but for 70 and 73.
 fn again(st: State, refusal: Refusal) -> Move
     ensures { λ r. ⌜ movedBy r ≡ againOf (noticeOf refusal) (walkOf st) ⌝ }
 {
     let reason = refusal.reason;
-    if reason::number_of(reason) == 70 {
+    if fitness::is_of_opening(reason::number_of(reason)) {
         return Move {
             change: Change::Nothing,
             answer: Answer {
@@ -102,6 +105,8 @@ fn refuse(st: State, column: u16, reason: Reason) -> Move
     requires { ⌜ st .lines ≤ mostLines ⌝ }
     ensures { λ r. ⌜ movedBy r ≡ refuses (walkOf st) column (numberOf reason) ⌝ }
 {
+    let held = st.held;
+    let format = held.format;
     let refusal = Refusal {
         line: st.lines + 1,
         column,
@@ -111,7 +116,7 @@ fn refuse(st: State, column: u16, reason: Reason) -> Move
         change: Change::Clear,
         answer: Answer {
             reply: Reply::Refused(refusal),
-            state: state::refused(refusal),
+            state: state::refused(format, refusal),
         },
     }
 }
@@ -168,11 +173,25 @@ pub fn end_move(st: State, ids: usize, list: usize) -> Move
     }
 }
 
-// Opening: a bad quarter is 70, and nothing is touched.
-pub fn open_move(held: Quarter) -> Move
+// Why a walk may not be opened so: 70 for the quarter, behind it 73 for the format.
+fn opening_reason(held: Opening) -> Reason
+    ensures { λ r. ⌜ numberOf r ≡ openingNumber held ⌝ }
+{
+    let closed = Quarter {
+        year: held.year,
+        month: held.month,
+    };
+    if calendar::is_allowed(closed) {
+        return Reason::UnknownFormat;
+    }
+    Reason::BadQuarter
+}
+
+// Opening: a bad quarter is 70, a format that is none 73, and nothing is touched.
+pub fn open_move(held: Opening) -> Move
     ensures { λ r. ⌜ movedBy r ≡ openMoved held ⌝ }
 {
-    if calendar::is_allowed(held) {
+    if format::may_open(held) {
         return Move {
             change: Change::Clear,
             answer: Answer {
@@ -184,13 +203,14 @@ pub fn open_move(held: Quarter) -> Move
     let refusal = Refusal {
         line: 0,
         column: 0,
-        reason: Reason::BadQuarter,
+        reason: opening_reason(held),
     };
+    let format = held.format;
     Move {
         change: Change::Nothing,
         answer: Answer {
             reply: Reply::Refused(refusal),
-            state: state::refused(refusal),
+            state: state::refused(format, refusal),
         },
     }
 }

@@ -77,11 +77,20 @@ fn employer(st: State, taken: usize, e: EmployerOn) -> Move
         follow: e.follow,
         count: 0,
         sum: 0,
+        second: 0,
+        others: 0,
+        nearest: 0,
+        noted: false,
+        account_head: 0,
+        account_tail: 0,
     };
     let totals = Totals {
         count: all.count,
         employers: all.employers + 1,
         sum: all.sum,
+        second: all.second,
+        others: all.others,
+        notes: all.notes,
     };
     let next = after(st, Phase::EOpen, st.filed, open, totals, 0);
     moves(next, taken, Change::Opens(all.employers as usize, e.fein))
@@ -99,11 +108,20 @@ fn with_one(st: State, s: EmployeeOn, used: usize) -> State
         follow: open.follow,
         count: open.count + 1,
         sum: open.sum + s.wages,
+        second: open.second,
+        others: open.others,
+        nearest: open.nearest,
+        noted: open.noted,
+        account_head: open.account_head,
+        account_tail: open.account_tail,
     };
     let totals = Totals {
         count: all.count + 1,
         employers: all.employers,
         sum: all.sum + s.wages,
+        second: all.second,
+        others: all.others,
+        notes: all.notes,
     };
     after(st, Phase::EOpen, st.filed, under, totals, used)
 }

@@ -2,4 +2,5 @@ pub mod Tables
 pub mod Room
 pub mod Laws
 pub mod Pad
+pub mod Last
 pub mod Steps

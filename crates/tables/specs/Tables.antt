@@ -32,5 +32,11 @@ closed e count cents = record { fein = e .fein; count = count; cents = cents }
 unfoldable pub closedAt : ℕ → ℕ → ℕ → List Employer → List Employer
 closedAt at count cents l = set l at (closed (getD l at noEmployer) count cents)
 
+-- The list with its last entry done.
+abbrev pub closedLast : ℕ → ℕ → List Employer → List Employer
+closedLast count cents [] = []
+closedLast count cents (entry ∷ []) = closed entry count cents ∷ []
+closedLast count cents (entry ∷ next ∷ entries) = entry ∷ closedLast count cents (next ∷ entries)
+
 abbrev pub feinsOf : List Employer → List ℕ
 feinsOf l = map (λ (e : Employer). e .fein) l

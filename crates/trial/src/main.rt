@@ -5,9 +5,11 @@
 use calendar::Quarter;
 use edits::Context;
 use edits::Open;
+use edits::Opening;
 use edits::Phase;
 use edits::Seen;
 use edits::Totals;
+use edits::format::Format;
 use record::Verdict;
 ghost use Prim.Native.Nat.{_≤_};
 ghost use lib.ListN.{length};
@@ -36,6 +38,12 @@ fn open(s: &[u8]) -> Open {
         follow: is_set(s, 23),
         count: number::value_in(s, 24, 30),
         sum: number::value_in(s, 31, 44),
+        second: 0,
+        others: 0,
+        nearest: 0,
+        noted: false,
+        account_head: 0,
+        account_tail: 0,
     }
 }
 
@@ -44,13 +52,20 @@ fn totals(s: &[u8]) -> Totals {
         count: number::value_in(s, 45, 51),
         employers: number::value_in(s, 52, 58),
         sum: number::value_in(s, 59, 73),
+        second: 0,
+        others: 0,
+        notes: 0,
     }
 }
 
 fn context(s: &[u8]) -> Context {
     Context {
         phase: phase(number::value_in(s, 1, 1)),
-        held: quarter(number::value_in(s, 2, 5), number::value_in(s, 6, 7)),
+        held: Opening {
+            format: Format::Pfml,
+            year: number::value_in(s, 2, 5),
+            month: number::value_in(s, 6, 7),
+        },
         filed: quarter(number::value_in(s, 8, 11), number::value_in(s, 12, 13)),
         open: open(s),
         all: totals(s),

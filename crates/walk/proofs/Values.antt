@@ -4,9 +4,9 @@ use mir.Syntax.{Tys, tcons, tnil}
 use prog.Memory.{up, align, size}
 use denote.Enum.Laws as EL
 use denote.Struct.Laws as LL
-use Rattle.calendar.specs.declared.Quarter.{Quarter}
-use Rattle.calendar.proofs.Quarter as Q
-use Rattle.calendar.proofs.Quarter.Laws as Q′
+use Rattle.edits.specs.declared.Opening.{Opening}
+use Rattle.edits.proofs.Opening as O
+use Rattle.edits.proofs.Opening.Laws as O′
 use Rattle.tables.proofs.Walk.{Field, Val}
 use Rattle.state.specs.declared.State.{State}
 use Rattle.state.proofs.State as S
@@ -24,8 +24,8 @@ use Rattle.step.proofs.Move.Laws as Mv′
 use Rattle.step.proofs.Reply as R
 use Rattle.step.proofs.Reply.Laws as R′
 
-abbrev pub quarter-val : Quarter → Val
-quarter-val = LL.val Q.the-type Q′.the-laws
+abbrev pub opening-val : Opening → Val
+opening-val = LL.val O.the-type O′.the-laws
 
 abbrev pub state-val : State → Val
 state-val = LL.val S.the-type S′.the-laws

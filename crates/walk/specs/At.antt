@@ -6,7 +6,8 @@ use mathlib.Core.Bool.{true}
 use mathlib.Core.Path.{_≡_}
 use lib.ListN.{length}
 use Rattle.calendar.specs.Quarters.{isReportable}
-use Rattle.calendar.specs.declared.Quarter.{Quarter}
+use Rattle.edits.specs.Formats.{quarterHeld}
+use Rattle.edits.specs.declared.Opening.{Opening}
 use Rattle.edits.specs.declared.Phase.{Phase}
 use Rattle.edits.specs.declared.Phase.the-variants.{BeforeA, AfterA, EOpen, AfterT, AfterF}
 use Rattle.record.specs.Place.{mostEmployees}
@@ -19,7 +20,7 @@ use Rattle.state.specs.Unfit.{mostWages, mostFein}
 use Rattle.state.specs.Walks.{Standing, reading, accepted, Walk}
 
 -- The state of a walk that stands so after these records.
-abbrev pub walkIn : Standing → Quarter → List Said → Walk
+abbrev pub walkIn : Standing → Opening → List Said → Walk
 walkIn standing held p =
     record {
       standing = standing;
@@ -32,10 +33,10 @@ walkIn standing held p =
     }
 
 -- The state after these records, and at the accepted end behind them.
-abbrev pub walkAt : Quarter → List Said → Walk
+abbrev pub walkAt : Opening → List Said → Walk
 walkAt held p = walkIn (reading (phaseIn p)) held p
 
-abbrev pub acceptedAt : Quarter → List Said → Walk
+abbrev pub acceptedAt : Opening → List Said → Walk
 acceptedAt held p = walkIn accepted held p
 
 -- "While an E is open the id table holds its numbers in file order, then zeros. When no E is open the id table is all zeros. An employer's entry
@@ -66,7 +67,7 @@ done AfterT = 0
 done AfterF = 1
 
 -- What holds of records that were taken, one after the other, with so much room.
-pub record Good (room : Room) (held : Quarter) (p : List Said) : Type 0 where
+pub record Good (room : Room) (held : Opening) (p : List Said) : Type 0 where
   pub ids-fit : length (idsUnder p) ≤ room .ids
   pub list-fit : totalsIn p .employers ≤ entriesUsed room
   -- An open E is one of those counted.
@@ -76,6 +77,6 @@ pub record Good (room : Room) (held : Quarter) (p : List Said) : Type 0 where
   pub under : openIn p .count ≤ totalsIn p .count
   pub under-sum : openIn p .sum ≤ openIn p .count * mostWages
   pub fein : openIn p .fein ≤ mostFein
-  pub quarter : (phaseIn p ≡ BeforeA) ⊎ (isReportable held (filedIn p) ≡ true)
+  pub quarter : (phaseIn p ≡ BeforeA) ⊎ (isReportable (quarterHeld held) (filedIn p) ≡ true)
   -- Each E has at most one T, and an open one none yet.
   pub lines : length p + opens (phaseIn p) ≤ begun (phaseIn p) + (totalsIn p .employers + totalsIn p .employers) + totalsIn p .count + done (phaseIn p)

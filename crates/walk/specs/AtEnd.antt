@@ -5,11 +5,11 @@ use mathlib.Core.List.{List, [], _∷_}
 use mathlib.Core.Path.{_≡_, refl, sym, ap, subst, _∙_}
 use native.Mathlib.Omega.{arith}
 use lib.ListN.{length}
-use Rattle.calendar.specs.Quarters.{isAllowed}
-use Rattle.calendar.specs.declared.Quarter.{Quarter}
 use Rattle.reason.specs.Numbers.{Notice, notice}
 use Rattle.laws.specs.Finding.{Finding}
 use Rattle.lines.specs.Lines.{Line}
+use Rattle.edits.specs.Formats.{isKnown, mayOpen}
+use Rattle.edits.specs.declared.Opening.{Opening}
 use Rattle.edits.specs.declared.Phase.{Phase}
 use Rattle.edits.specs.declared.Phase.the-variants.{BeforeA, AfterA, EOpen, AfterT, AfterF}
 use Rattle.edits.specs.declared.Totals.{Totals}
@@ -29,7 +29,7 @@ use Rattle.state.specs.UnfitLaws.{left-number}
 use Rattle.walk.specs.At.{Good}
 use Rattle.walk.specs.Means.{taken-good}
 
-module _ (room : Room) (held : Quarter) (allowed : isAllowed held ≡ true) (entries : List Employer) (totals : Totals) where
+module _ (room : Room) (held : Opening) (allowed : mayOpen held ≡ true) (entries : List Employer) (totals : Totals) where
   abbrev TakenAll : List Said → Type 0
   TakenAll p = Good room held p × (phaseIn p ≡ AfterF)
 
@@ -56,7 +56,7 @@ module _ (room : Room) (held : Quarter) (allowed : isAllowed held ≡ true) (ent
         subst TakenAll (ap (λ (s : Said). recordsOnto (s ∷ p) lines) is ∙ sym (onto-cons p line lines)) rest
 
 -- A refusal of a file has a number from 1 to 65, so it is one that a refusal leaves in the state.
-module _ (room : Room) (held : Quarter) (says : Notice) where
+module _ (room : Room) (held : Opening) (says : Notice) where
   abbrev Numbered : ℕ → Type 0
   Numbered number = (1 ≤ number) × (number ≤ 65)
 
@@ -81,5 +81,6 @@ module _ (room : Room) (held : Quarter) (says : Notice) where
         (refusal-numbered _ _ line column number e)
     by (passed taken said) e more = more (said ∷ p) (sym (meaning-goes-on room held p line lines taken said e) ∙ ends)
 
-  pub refused-left : (lines : List Line) (p : List Said) → meaningFrom room held p lines ≡ refused says → isLeft (says .number) ≡ true
-  refused-left lines p ends = left-number (says .number) (refused-numbered lines p ends)
+  pub refused-left : (lines : List Line) (p : List Said) → isKnown (held .format) ≡ true → meaningFrom room held p lines ≡ refused says
+      → isLeft (held .format) (says .number) ≡ true
+  refused-left lines p known ends = left-number (held .format) (says .number) known (refused-numbered lines p ends)

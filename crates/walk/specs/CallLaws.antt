@@ -7,12 +7,14 @@ use mathlib.Core.Logic.{_⊎_, inl, inr}
 use mathlib.Core.Path.{_≡_, refl, ap, _∙_}
 use native.Mathlib.Omega.{arith}
 use lib.ListN.{length, take}
-use Rattle.calendar.specs.Quarters.{isAllowed, isReportable}
+use Rattle.calendar.specs.Quarters.{isReportable}
 use Rattle.calendar.specs.declared.Quarter.{Quarter}
 use Rattle.chars.specs.Characters.{capitals}
 use Rattle.lines.specs.Lines.{Line, firstLine}
 use Rattle.lines.specs.Window.{Lent}
 use Rattle.edits.specs.Edit.{firstBroken}
+use Rattle.edits.specs.Formats.{mayOpen, quarterHeld}
+use Rattle.edits.specs.declared.Opening.{Opening}
 use Rattle.edits.specs.declared.Phase.{Phase}
 use Rattle.edits.specs.declared.Phase.the-variants.{BeforeA, AfterA, EOpen, AfterT, AfterF}
 use Rattle.record.specs.Among.{judge-lent}
@@ -50,7 +52,7 @@ pub pieces-are-whole : (walk : Walk) (t : Tables) (m : ℕ) (s : List ℕ) → L
 pieces-are-whole walk t m s lent = ap (λ (moved : Moved). carried moved t) (same-line (roomOf t) (listedFein walk t) (listedId walk t) m s lent walk)
 
 -- ---- a walk that nobody altered
-quarters-fit : (phase : Phase) (held filed : Quarter) → isAllowed held ≡ true → (phase ≡ BeforeA) ⊎ (isReportable held filed ≡ true)
+quarters-fit : (phase : Phase) (held : Opening) (filed : Quarter) → mayOpen held ≡ true → (phase ≡ BeforeA) ⊎ (isReportable (quarterHeld held) filed ≡ true)
     → standingUnfit (reading phase) held filed ≡ false
 quarters-fit BeforeA held filed allowed either = rw allowed
 quarters-fit AfterA held filed allowed (inr reportable) = rw (allowed, reportable)
@@ -76,7 +78,7 @@ counts-small EOpen = (omega arith, omega arith)
 counts-small AfterT = (omega arith, omega arith)
 counts-small AfterF = (omega arith, omega arith)
 
-module _ (room : Room) (held : Quarter) (p : List Said) (g : Good room held p) (allowed : isAllowed held ≡ true) where
+module _ (room : Room) (held : Opening) (p : List Said) (g : Good room held p) (allowed : mayOpen held ≡ true) where
   pub file-sound-at : FileSound (entriesUsed room) (totalsIn p) (length p)
   file-sound-at =
       record {

@@ -5,17 +5,18 @@ use mathlib.Core.Logic.{_⊎_}
 use lib.Dec.{eqb}
 use lib.ListN.{length, take}
 use Rattle.laws.specs.Choice.{if_then_else_}
-use Rattle.calendar.specs.Quarters.{isAllowed}
-use Rattle.calendar.specs.declared.Quarter.{Quarter}
 use Rattle.lines.specs.Lines.{firstLine, linesOf}
-use Rattle.reason.specs.Numbers.{Notice, notice}
+use Rattle.reason.specs.Numbers.{Notice}
+use Rattle.edits.specs.Formats.{mayOpen}
+use Rattle.edits.specs.declared.Opening.{Opening}
+use Rattle.edits.specs.declared.format.Format.{Format}
 use Rattle.record.specs.declared.said.Said.{Said}
 use Rattle.tables.specs.Pad.{pad}
 use Rattle.tables.specs.Room.{Room, Tables, tables, roomOf, zeroed}
 use Rattle.tables.specs.Tables.{noEmployer}
 use Rattle.meaning.specs.Meaning.{Outcome, accepted, refused, recordsOnto, meaning}
 use Rattle.state.specs.Walks.{Walk, refusedWalk}
-use Rattle.step.specs.Moves.{allWell}
+use Rattle.step.specs.Moves.{allWell, openingNotice}
 use Rattle.step.specs.Steps.{Out, openStep, lineStep, endStep}
 use Rattle.walk.specs.At.{acceptedAt}
 
@@ -34,15 +35,15 @@ calls lend zero (b ∷ rest) walk t =
     if eqb (o .taken) 0 then endStep (o .walk) (o .left) else calls lend (o .taken - 1) rest (o .walk) (o .left)
 
 -- From the opening on.
-abbrev pub walked : (ℕ → ℕ) → Quarter → List ℕ → Tables → Out
+abbrev pub walked : (ℕ → ℕ) → Opening → List ℕ → Tables → Out
 walked lend held file t = calls lend 0 file (openStep held t .walk) (openStep held t .left)
 
--- What a refusal from 1 to 65 leaves with the caller.
-abbrev pub refusedWith : Notice → Room → Out
-refusedWith says room = record { says = says; taken = 0; walk = refusedWalk says; left = zeroed room }
+-- What a refusal from 1 to 65 leaves with the caller, in a walk of this format.
+abbrev pub refusedWith : Format → Notice → Room → Out
+refusedWith format says room = record { says = says; taken = 0; walk = refusedWalk format says; left = zeroed room }
 
 -- What an outcome leaves with the caller. "Acceptance leaves the employer list, in file order: FEIN, S count, cents; later entries zero."
-abbrev pub leaves : Room → Quarter → List Said → Outcome → Out
+abbrev pub leaves : Room → Opening → List Said → Outcome → Out
 leaves room held p (accepted entries totals) =
     record {
       says = allWell;
@@ -50,11 +51,11 @@ leaves room held p (accepted entries totals) =
       walk = acceptedAt held p;
       left = tables (zeroed room .ids) (pad noEmployer (room .list) entries);
     }
-leaves room held p (refused says) = refusedWith says room
+leaves room held p (refused says) = refusedWith (held .format) says room
 
--- What a whole file leaves: by its meaning, or 70 with nothing touched.
-abbrev pub wholeFile : Quarter → List ℕ → Tables → Out
+-- What a whole file leaves: by its meaning; or, where the opening is refused, 70 or 73 with nothing touched.
+abbrev pub wholeFile : Opening → List ℕ → Tables → Out
 wholeFile held file t =
-    if isAllowed held
+    if mayOpen held
     then leaves (roomOf t) held (recordsOnto [] (linesOf file)) (meaning (roomOf t) held file)
-    else record { says = notice 70 0 0; taken = 0; walk = refusedWalk (notice 70 0 0); left = t }
+    else record { says = openingNotice held; taken = 0; walk = refusedWalk (held .format) (openingNotice held); left = t }

@@ -4,9 +4,9 @@ use mathlib.Core.Bool.{Bool}
 use mathlib.Core.List.{List}
 use mathlib.Core.Path.{_≡_, ap, _∙_}
 use lib.ListN.{take}
-use Rattle.calendar.specs.declared.Quarter.{Quarter}
 use Rattle.chars.specs.Characters.{capitals}
 use Rattle.lines.specs.Lines.{firstLine}
+use Rattle.edits.specs.declared.Opening.{Opening}
 use Rattle.record.specs.Judge.{kindOn, feinOn, idOn}
 use Rattle.tables.specs.Room.{Tables, tables, roomOf}
 use Rattle.tables.specs.Tables.{feinsOf, isAmong}
@@ -30,7 +30,7 @@ module _ (m : Move) (ids : List ℕ) (list : List Employer) where
       → outOf (m .answer) (tables ids′ list′) ≡ outOf (m .answer) (written (m .change) lent)
   both-written ids′ list′ e₁ e₂ = λ i. outOf (m .answer) (tables (e₁ i) (e₂ i))
 
-  pub open-carried : (held : Quarter) → movedBy m ≡ openMoved held → outOf (m .answer) (written (m .change) lent) ≡ openStep held lent
+  pub open-carried : (held : Opening) → movedBy m ≡ openMoved held → outOf (m .answer) (written (m .change) lent) ≡ openStep held lent
   open-carried held e = made (openMoved held) e
 
   pub end-carried : (walk : Walk) → movedBy m ≡ endMoved (roomOf lent) walk → outOf (m .answer) (written (m .change) lent) ≡ endStep walk lent

@@ -6,10 +6,10 @@ use mathlib.Core.List.{List, []}
 use mathlib.Core.Path.{_≡_, refl, sym, ap, subst, _∙_}
 use native.Mathlib.Omega.{arith}
 use lib.ListN.{length, replicate}
-use Rattle.reason.specs.Numbers.{Notice, notice}
-use Rattle.calendar.specs.Quarters.{isAllowed}
-use Rattle.calendar.specs.declared.Quarter.{Quarter}
+use Rattle.reason.specs.Numbers.{Notice}
 use Rattle.lines.specs.Lines.{linesOf}
+use Rattle.edits.specs.Formats.{mayOpen}
+use Rattle.edits.specs.declared.Opening.{Opening}
 use Rattle.record.specs.declared.said.Said.{Said}
 use Rattle.tables.specs.Pad.{pad}
 use Rattle.tables.specs.Room.{Tables, roomOf}
@@ -21,6 +21,7 @@ use Rattle.meaning.specs.Meaning as meant
 use Rattle.meaning.specs.Meaning.{recordsOnto, Outcome, meaning}
 use Rattle.meaning.specs.Theorems.{accepted-iff}
 use Rattle.state.specs.Walks.{accepted, refused}
+use Rattle.step.specs.Moves.{openingNotice}
 use Rattle.step.specs.Steps.{Out}
 use Rattle.walk.specs.Calls.{Lending, walked, leaves, wholeFile}
 use Rattle.walk.specs.Means.{walk-means}
@@ -34,7 +35,7 @@ pub record Reported (file : List ℕ) (t : Tables) (o : Out) : Type 0 where
   pub ids : o .left .ids ≡ replicate (length (t .ids)) 0
   pub all : o .walk .all ≡ totalsOf (recordsOf file)
 
-module _ (held : Quarter) (file : List ℕ) (t : Tables) where
+module _ (held : Opening) (file : List ℕ) (t : Tables) where
   abbrev records : List Said
   records = recordsOnto [] (linesOf file)
 
@@ -51,15 +52,15 @@ module _ (held : Quarter) (file : List ℕ) (t : Tables) where
       }
   reported (meant.refused says) e ends = absurd (not-accepted says ends)
 
-  whole-reported : (allowed : Bool) → isAllowed held ≡ allowed → wholeFile held file t .walk .standing ≡ accepted → Reported file t (wholeFile held file t)
+  whole-reported : (allowed : Bool) → mayOpen held ≡ allowed → wholeFile held file t .walk .standing ≡ accepted → Reported file t (wholeFile held file t)
   whole-reported true e ends =
       let same : wholeFile held file t ≡ leaves (roomOf t) held records (meaning (roomOf t) held file) = rw e in
       subst (Reported file t) (sym same) (reported (meaning (roomOf t) held file) refl (sym (ap (λ (o : Out). o .walk .standing) same) ∙ ends))
   whole-reported false e ends =
-      let same : wholeFile held file t .walk .standing ≡ refused (notice 70 0 0) = rw e in
-      absurd (not-accepted (notice 70 0 0) (sym same ∙ ends))
+      let same : wholeFile held file t .walk .standing ≡ refused (openingNotice held) = rw e in
+      absurd (not-accepted (openingNotice held) (sym same ∙ ends))
 
   pub employers-are : (lend : ℕ → ℕ) → Lending lend → walked lend held file t .walk .standing ≡ accepted → Reported file t (walked lend held file t)
   employers-are lend lending ends =
       let same = walk-means lend lending held file t in
-      subst (Reported file t) (sym same) (whole-reported (isAllowed held) refl (sym (ap (λ (o : Out). o .walk .standing) same) ∙ ends))
+      subst (Reported file t) (sym same) (whole-reported (mayOpen held) refl (sym (ap (λ (o : Out). o .walk .standing) same) ∙ ends))

@@ -11,6 +11,8 @@ use borrow.Author.Tests.{eq-eqb, leb-false}
 use Rattle.laws.specs.Choice.{if_then_else_}
 use Rattle.calendar.specs.Quarters.{isReportable}
 use Rattle.calendar.specs.declared.Quarter.{Quarter}
+use Rattle.edits.specs.Formats.{quarterHeld}
+use Rattle.edits.specs.declared.Opening.{Opening}
 use Rattle.edits.specs.declared.Phase.{Phase}
 use Rattle.edits.specs.declared.Phase.the-variants.{BeforeA, AfterA, EOpen, AfterT}
 use Rattle.record.specs.Passed.{Fits, Bounded}
@@ -26,7 +28,7 @@ use Rattle.walk.specs.At.{begun, done, Good}
 pub length-snoc : {A : Type 0} (l : List A) (x : A) → length (l ++ (x ∷ [])) ≡ length l + 1
 length-snoc l x = length-append l (x ∷ [])
 
-pub good-none : (room : Room) (held : Quarter) → Good room held []
+pub good-none : (room : Room) (held : Opening) → Good room held []
 good-none room held =
     record {
       ids-fit = omega arith;
@@ -42,8 +44,8 @@ good-none room held =
     }
 
 -- A later phase than BeforeA leaves A's quarter reportable.
-pub still-reportable : (held : Quarter) (p : List Said) (phase : Phase) → phaseIn p ≡ phase → begun phase ≡ 1
-    → (phaseIn p ≡ BeforeA) ⊎ (isReportable held (filedIn p) ≡ true) → isReportable held (filedIn p) ≡ true
+pub still-reportable : (held : Opening) (p : List Said) (phase : Phase) → phaseIn p ≡ phase → begun phase ≡ 1
+    → (phaseIn p ≡ BeforeA) ⊎ (isReportable (quarterHeld held) (filedIn p) ≡ true) → isReportable (quarterHeld held) (filedIn p) ≡ true
 still-reportable held p phase e later (inl before) =
     let z : begun BeforeA ≡ 1 = ap begun (sym before ∙ e) ∙ later in
     absurd (omega arith)
@@ -62,8 +64,8 @@ e-place : (p : List Said) → (phaseIn p ≡ AfterA) ⊎ (phaseIn p ≡ AfterT) 
 e-place p (inl a) = (rw a, rw a)
 e-place p (inr t) = (rw t, rw t)
 
-module _ (room : Room) (held : Quarter) (p : List Said) (g : Good room held p) where
-  reportable-after : (phase : Phase) → phaseIn p ≡ phase → begun phase ≡ 1 → isReportable held (filedIn p) ≡ true
+module _ (room : Room) (held : Opening) (p : List Said) (g : Good room held p) where
+  reportable-after : (phase : Phase) → phaseIn p ≡ phase → begun phase ≡ 1 → isReportable (quarterHeld held) (filedIn p) ≡ true
   reportable-after phase e later = still-reportable held p phase e later (g .quarter)
 
   good-a : (quarter : Quarter) → Fits (contextAt room held p) (onEarlierE p) (underThisE p) (OfA quarter) → Good room held (OfA quarter ∷ p)

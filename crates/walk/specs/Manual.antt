@@ -6,10 +6,10 @@ use mathlib.Core.List.{List, []}
 use mathlib.Core.Path.{_≡_, refl, sym, ap, subst, _∙_}
 use native.Mathlib.Omega.{arith}
 use Rattle.reason.specs.Numbers.{Notice}
-use Rattle.calendar.specs.Quarters.{isAllowed}
-use Rattle.calendar.specs.declared.Quarter.{Quarter}
 use Rattle.lines.specs.Lines.{linesOf}
 use Rattle.tables.specs.Room.{Tables, roomOf}
+use Rattle.edits.specs.Formats.{mayOpen}
+use Rattle.edits.specs.declared.Opening.{Opening}
 use Rattle.meaning.specs.Meaning as meant
 use Rattle.meaning.specs.Meaning.{LineEdit, fileEdits, Outcome, recordsOnto, meaning}
 use Rattle.meaning.specs.Theorems.{NoneBroken, FirstBroken, not-refused, accepted-iff, first-is-first}
@@ -30,7 +30,7 @@ pub record AsInManual (edits : List LineEdit) (file : List ℕ) (t : Tables) (o 
   -- "'refused' gives the first line, column and reason": any other answer is the first broken edit in the stated order.
   pub refused-first : (o .says ≡ allWell → ⊥) → FirstBroken edits (o .says)
 
-module _ (held : Quarter) (allowed : isAllowed held ≡ true) (file : List ℕ) (t : Tables) where
+module _ (held : Opening) (allowed : mayOpen held ≡ true) (file : List ℕ) (t : Tables) where
   abbrev edits : List LineEdit
   edits = fileEdits (roomOf t) held file
 

@@ -10,13 +10,16 @@ use borrow.Author.Tests.{ne-eqb}
 use Rattle.laws.specs.Choice.{if_then_else_}
 use Rattle.laws.specs.Finding.{Finding}
 use Rattle.reason.specs.Numbers.{Notice, notice}
-use Rattle.calendar.specs.Quarters.{isAllowed}
-use Rattle.calendar.specs.declared.Quarter.{Quarter}
 use Rattle.lines.specs.Laws.{from-nil, from-skip, from-line}
 use Rattle.lines.specs.Lines.{Line, firstLine, sizeOf, linesFrom}
 use Rattle.lines.specs.Window.{Lent}
+use Rattle.calendar.specs.Quarters.{isAllowed}
+use Rattle.edits.specs.FormatLaws.{opens-known}
+use Rattle.edits.specs.Formats.{isKnown, quarterHeld, mayOpen, isOfOpening}
+use Rattle.edits.specs.declared.Opening.{Opening}
 use Rattle.edits.specs.declared.Phase.{Phase}
 use Rattle.edits.specs.declared.Phase.the-variants.{BeforeA, AfterA, EOpen, AfterT, AfterF}
+use Rattle.edits.specs.declared.format.Format.{Format}
 use Rattle.record.specs.Among.{passed-size, passed-positive}
 use Rattle.record.specs.Judge.{Judged, refusal, passed}
 use Rattle.record.specs.Passed.{passed-fits, Bounded, said-bounded}
@@ -30,11 +33,11 @@ use Rattle.meaning.specs.Before.{phaseIn, totalsIn, entriesIn}
 use Rattle.meaning.specs.FileLaws.{onto-nil, onto-cons, meaning-end, meaning-refuses, meaning-goes-on}
 use Rattle.meaning.specs.Meaning.{contextAt, onEarlierE, underThisE, judgeAt, foundOn, recordsOnto, accepted, refused, outcomeBy, meaningFrom}
 use Rattle.state.specs.Unfit.{isLeft}
-use Rattle.state.specs.UnfitLaws.{left-number, left-seventy, refused-fit}
+use Rattle.state.specs.UnfitLaws.{left-number, left-opening, refused-fit}
 use Rattle.state.specs.Walks as walks
 use Rattle.state.specs.Walks.{refusedWalk}
 use Rattle.step.specs.MoveLaws.{line-fit, end-fit, open-allowed, open-refused}
-use Rattle.step.specs.Moves.{Moved, allWell, again, refuses, accepts, byVerdict, endVerdict}
+use Rattle.step.specs.Moves.{Moved, allWell, again, refuses, accepts, byVerdict, endVerdict, openingNotice}
 use Rattle.step.specs.Steps.{Out, carried, lineStep, endStep}
 use Rattle.walk.specs.At.{walkAt, tablesAt, Good}
 use Rattle.walk.specs.CallLaws.{pieces-are-whole, line-at, end-at}
@@ -43,33 +46,37 @@ use Rattle.walk.specs.GoodLaws.{good-none, good-more}
 use Rattle.walk.specs.StepLaws.{room-at, after-said, wrote, ids-none}
 
 -- ---- a refused walk
--- Called again it answers the same, and both tables are zeroed again; after 70 nothing is touched.
-pub again-line : (says : Notice) → isLeft (says .number) ≡ true → (line : Line) (t : Tables) → lineStep (refusedWalk says) line t ≡ carried (again says (refusedWalk says)) t
-again-line says e line t =
-    ap (λ (moved : Moved). carried moved t) (line-fit (roomOf t) (refusedWalk says) _ line (walks.refused says) (refused-fit (roomOf t) says e) refl)
+module _ (format : Format) (says : Notice) where
+  -- Called again it answers the same, and both tables are zeroed again; after 70 and 73 nothing is touched.
+  pub again-line : isLeft format (says .number) ≡ true → (line : Line) (t : Tables)
+      → lineStep (refusedWalk format says) line t ≡ carried (again says (refusedWalk format says)) t
+  again-line e line t =
+      ap (λ (moved : Moved). carried moved t)
+      (line-fit (roomOf t) (refusedWalk format says) _ line (walks.refused says) (refused-fit (roomOf t) format says e) refl)
 
-pub again-end : (says : Notice) → isLeft (says .number) ≡ true → (t : Tables) → endStep (refusedWalk says) t ≡ carried (again says (refusedWalk says)) t
-again-end says e t = ap (λ (moved : Moved). carried moved t) (end-fit (roomOf t) (refusedWalk says) (walks.refused says) (refused-fit (roomOf t) says e) refl)
+  pub again-end : isLeft format (says .number) ≡ true → (t : Tables) → endStep (refusedWalk format says) t ≡ carried (again says (refusedWalk format says)) t
+  again-end e t =
+      ap (λ (moved : Moved). carried moved t) (end-fit (roomOf t) (refusedWalk format says) (walks.refused says) (refused-fit (roomOf t) format says e) refl)
 
-not-seventy : (number : ℕ) → (1 ≤ number) × (number ≤ 65) → eqb number 70 ≡ false
-not-seventy number within = ne-eqb number 70 (λ e. omega (arith, within))
+not-of-opening : (number : ℕ) → (1 ≤ number) × (number ≤ 65) → isOfOpening number ≡ false
+not-of-opening number within = rw (ne-eqb number 70 (λ e. omega (arith, within)), ne-eqb number 73 (λ e. omega (arith, within)))
 
 -- The end call after a refusal.
-end-refused : (room : Room) (says : Notice) → (1 ≤ says .number) × (says .number ≤ 65)
-    → endStep (refusedWalk says) (zeroed room) ≡ refusedWith says room
-end-refused room says within =
-    again-end says (left-number (says .number) within) (zeroed room)
-    ∙ rw (not-seventy (says .number) within, length-replicate, length-replicate)
+end-refused : (room : Room) (format : Format) (says : Notice) → isKnown format ≡ true → (1 ≤ says .number) × (says .number ≤ 65)
+    → endStep (refusedWalk format says) (zeroed room) ≡ refusedWith format says room
+end-refused room format says known within =
+    again-end format says (left-number format (says .number) known within) (zeroed room)
+    ∙ rw (not-of-opening (says .number) within, length-replicate, length-replicate)
 
 -- What the calls do with the answer of a line.
 abbrev pub next : (ℕ → ℕ) → List ℕ → Out → Out
 next lend rest o = if eqb (o .taken) 0 then endStep (o .walk) (o .left) else calls lend (o .taken - 1) rest (o .walk) (o .left)
 
-module _ (room : Room) (held : Quarter) (allowed : isAllowed held ≡ true) where
+module _ (room : Room) (held : Opening) (allowed : mayOpen held ≡ true) where
   -- A refusal at a line or at the end zeroes both tables.
   refused-at : (p : List Said) → Good room held p → (column number : ℕ)
-      → carried (refuses (walkAt held p) column number) (tablesAt room p) ≡ refusedWith (notice number (length p + 1) column) room
-  refused-at p g column number = ap (refusedWith (notice number (length p + 1) column)) (room-at room held p g)
+      → carried (refuses (walkAt held p) column number) (tablesAt room p) ≡ refusedWith (held .format) (notice number (length p + 1) column) room
+  refused-at p g column number = ap (refusedWith (held .format) (notice number (length p + 1) column)) (room-at room held p g)
 
   -- ---- the end
   accepted-end : (p : List Said) → Good room held p → phaseIn p ≡ AfterF → carried (accepts (walkAt held p)) (tablesAt room p) ≡ leaves room held p (accepted (entriesIn p) (totalsIn p))
@@ -98,7 +105,7 @@ module _ (room : Room) (held : Quarter) (allowed : isAllowed held ≡ true) wher
   -- ---- a line
   -- What a line that is refused, and one that is taken, leaves.
   pub line-refused : (p : List Said) → Good room held p → (line : Line) (column number : ℕ) → judgeAt room held p line ≡ refusal column number
-      → lineStep (walkAt held p) line (tablesAt room p) ≡ refusedWith (notice number (length p + 1) column) room
+      → lineStep (walkAt held p) line (tablesAt room p) ≡ refusedWith (held .format) (notice number (length p + 1) column) room
   line-refused p g line column number e =
       line-at room held p g allowed line ∙ ap (λ (v : Judged). carried (byVerdict (walkAt held p) v) (tablesAt room p)) e ∙ refused-at p g column number
 
@@ -132,7 +139,7 @@ module _ (room : Room) (held : Quarter) (allowed : isAllowed held ≡ true) wher
     goes rest more p g line (refusal column number) e =
         let says = notice number (length p + 1) column in
         ap (next lend rest) (line-refused p g line column number e)
-        ∙ end-refused room says (refusal-numbered _ _ line column number e)
+        ∙ end-refused room (held .format) says (opens-known held allowed) (refusal-numbered _ _ line column number e)
         ∙ sym (ap (leaves room held _) (meaning-refuses room held p line (linesFrom (sizeOf line - 1) rest) column number e))
     goes rest more p g line (passed taken said) e =
         let here = contextAt room held p in
@@ -155,28 +162,34 @@ module _ (room : Room) (held : Quarter) (allowed : isAllowed held ≡ true) wher
         ∙ rw (from-line b rest) (goes rest (walks-on rest) p g (firstLine (b ∷ rest)) (judgeAt room held p (firstLine (b ∷ rest))) refl)
 
 -- ---- an opening that is refused
-module _ (t : Tables) where
-  abbrev seventy : Notice
-  seventy = notice 70 0 0
-
-  -- Each later call answers 70 again and touches nothing.
+module _ (held : Opening) (t : Tables) where
+  -- Each later call answers its number again and touches nothing.
   abbrev untouched : Out
-  untouched = record { says = seventy; taken = 0; walk = refusedWalk seventy; left = t }
+  untouched = record { says = openingNotice held; taken = 0; walk = refusedWalk (held .format) (openingNotice held); left = t }
 
-  calls-seventy : (lend : ℕ → ℕ) (file : List ℕ) → calls lend 0 file (refusedWalk seventy) t ≡ untouched
+  still : (allowed : Bool) → isOfOpening (if allowed then 73 else 70) ≡ true
+  still true = refl
+  still false = refl
+
+  again-untouched : carried (again (openingNotice held) (refusedWalk (held .format) (openingNotice held))) t ≡ untouched
+  again-untouched = rw (still (isAllowed (quarterHeld held)))
+
+  calls-untouched : (lend : ℕ → ℕ) (file : List ℕ) → calls lend 0 file (refusedWalk (held .format) (openingNotice held)) t ≡ untouched
   unfolding calls
-  calls-seventy lend [] = again-end seventy left-seventy t
-  calls-seventy lend (b ∷ rest) = ap (next lend rest) (again-line seventy left-seventy (firstLine (take (lend (length (b ∷ rest))) (b ∷ rest))) t) ∙ again-end seventy left-seventy t
+  calls-untouched lend [] = again-end (held .format) (openingNotice held) (left-opening held) t ∙ again-untouched
+  calls-untouched lend (b ∷ rest) =
+      ap (next lend rest) (again-line (held .format) (openingNotice held) (left-opening held) (firstLine (take (lend (length (b ∷ rest))) (b ∷ rest))) t ∙ again-untouched)
+      ∙ again-end (held .format) (openingNotice held) (left-opening held) t ∙ again-untouched
 
 -- ---- the theorem
 pub from-start : (room : Room) → tablesAt room [] ≡ zeroed room
 from-start room = rw (pad-none {A = ℕ} 0 (room .ids), pad-none noEmployer (room .list))
 
--- Opening, line calls and one end call, whatever each is lent, answer and leave what the file means: the sentence in the manual. For a quarter
--- that is refused they answer 70 and leave everything as it was.
-pub walk-means : (lend : ℕ → ℕ) → Lending lend → (held : Quarter) (file : List ℕ) (t : Tables) → walked lend held file t ≡ wholeFile held file t
-walk-means lend lending held file t = at (isAllowed held) refl where
-  at : (allowed : Bool) → isAllowed held ≡ allowed → walked lend held file t ≡ wholeFile held file t
+-- Opening, line calls and one end call, whatever each is lent, answer and leave what the file means: the sentence in the manual. For an opening
+-- that is refused they answer 70 or 73 and leave everything as it was.
+pub walk-means : (lend : ℕ → ℕ) → Lending lend → (held : Opening) (file : List ℕ) (t : Tables) → walked lend held file t ≡ wholeFile held file t
+walk-means lend lending held file t = at (mayOpen held) refl where
+  at : (allowed : Bool) → mayOpen held ≡ allowed → walked lend held file t ≡ wholeFile held file t
   at true e =
       rw (open-allowed held e, e, ← from-start (roomOf t)) (walks-on (roomOf t) held e lend lending file 0 [] (good-none (roomOf t) held))
-  at false e = rw (open-refused held e, e) (calls-seventy t lend file)
+  at false e = rw (open-refused held e, e) (calls-untouched held t lend file)

@@ -10,7 +10,7 @@ use lib.Dec.{eqb, leb}
 use lib.ListN.{length, take}
 use borrow.Author.Tests.{eq-eqb, leb-false}
 use Rattle.laws.specs.Choice.{if_then_else_}
-use Rattle.calendar.specs.declared.Quarter.{Quarter}
+use Rattle.edits.specs.declared.Opening.{Opening}
 use Rattle.edits.specs.declared.Phase.{Phase}
 use Rattle.edits.specs.declared.Phase.the-variants.{BeforeA, AfterA, EOpen, AfterT}
 use Rattle.record.specs.Passed.{Fits}
@@ -18,12 +18,13 @@ use Rattle.record.specs.declared.said.EmployeeOn.{EmployeeOn}
 use Rattle.record.specs.declared.said.EmployerOn.{EmployerOn}
 use Rattle.record.specs.declared.said.Said.{Said}
 use Rattle.record.specs.declared.said.Said.the-variants.{OfA, OfE, OfS, OfT, OfF, OfNone}
+use Rattle.tables.specs.Last.{closed-padded}
 use Rattle.tables.specs.Pad.{pad, pad-none, length-pad, take-pad, set-pad, wiped-pad}
 use Rattle.tables.specs.Room.{Room, Tables, tables, roomOf, entriesUsed}
 use Rattle.tables.specs.Tables.{noEmployer, feinsOf}
 use Rattle.tables.specs.declared.Employer.{Employer}
 use Rattle.meaning.specs.Before.{phaseIn, openIn, idsWith, idsUnder, totalsIn, feinsIn, entryAtE, entriesIn}
-use Rattle.meaning.specs.BeforeLaws.{closed-padded, entries-many, entries-feins}
+use Rattle.meaning.specs.BeforeLaws.{entries-many, entries-feins}
 use Rattle.meaning.specs.Meaning.{contextAt, onEarlierE, underThisE}
 use Rattle.step.specs.Moves.{usedAfter, walkAfter, changeBy}
 use Rattle.step.specs.Steps.{written}
@@ -32,7 +33,7 @@ use Rattle.walk.specs.At.{walkAt, tablesAt, opens, Good}
 use Rattle.walk.specs.GoodLaws.{length-snoc}
 
 -- ---- the tables
-module _ (room : Room) (held : Quarter) (p : List Said) (g : Good room held p) where
+module _ (room : Room) (held : Opening) (p : List Said) (g : Good room held p) where
   pub entries-within : length (entriesIn p) ≤ room .list
   entries-within = omega (arith, entries-many p, g .list-fit)
 
@@ -61,7 +62,7 @@ used-after OfF ids = refl
 used-after OfNone ids = refl
 
 -- The walk takes the same steps.
-pub after-said : (held : Quarter) (p : List Said) (said : Said) → walkAfter said (walkAt held p) ≡ walkAt held (said ∷ p)
+pub after-said : (held : Opening) (p : List Said) (said : Said) → walkAfter said (walkAt held p) ≡ walkAt held (said ∷ p)
 after-said held p said = rw (add-one, used-after said (idsUnder p))
 
 -- ---- what is written
@@ -81,7 +82,7 @@ ids-before-e : (p : List Said) → (phaseIn p ≡ AfterA) ⊎ (phaseIn p ≡ Aft
 ids-before-e p (inl a) = ids-none p AfterA a refl
 ids-before-e p (inr t) = ids-none p AfterT t refl
 
-module _ (room : Room) (held : Quarter) (p : List Said) (g : Good room held p) where
+module _ (room : Room) (held : Opening) (p : List Said) (g : Good room held p) where
   abbrev filled : List ℕ → List Employer → Tables
   filled ids entries = tables (pad 0 (room .ids) ids) (pad noEmployer (room .list) entries)
 
@@ -114,7 +115,7 @@ module _ (room : Room) (held : Quarter) (p : List Said) (g : Good room held p) w
         wiped-pad 0 (room .ids) (idsUnder p) (g .ids-fit),
         pad-none {A = ℕ} 0 (room .ids),
         ← entries-many p,
-        closed-padded (openIn p) (room .list) (entriesIn p) (omega (arith, some, entries-many p)),
+        closed-padded (openIn p .count) (openIn p .sum) (room .list) (entriesIn p) (omega (arith, some, entries-many p)),
       )
 
   -- What a record that passes writes is what the records with it leave.

@@ -3,9 +3,9 @@ use Prim.Native.Nat.{ℕ}
 use mathlib.Core.Bool.{true}
 use mathlib.Core.List.{List, [], _∷_}
 use mathlib.Core.Path.{_≡_, refl, sym, ap, subst, _∙_}
-use Rattle.calendar.specs.Quarters.{isAllowed}
-use Rattle.calendar.specs.declared.Quarter.{Quarter}
 use Rattle.lines.specs.Lines.{Line, firstLine}
+use Rattle.edits.specs.Formats.{mayOpen}
+use Rattle.edits.specs.declared.Opening.{Opening}
 use Rattle.record.specs.Judge.{Judged, refusal, passed, recordOn}
 use Rattle.record.specs.Among.{passed-size}
 use Rattle.record.specs.declared.said.Said.{Said}
@@ -33,7 +33,7 @@ abbrev pub lentRecords : List Said → List (List ℕ) → List Said
 lentRecords p [] = p
 lentRecords p (bytes ∷ more) = lentRecords (recordOn (firstLine bytes) ∷ p) more
 
-module _ (room : Room) (held : Quarter) (allowed : isAllowed held ≡ true) where
+module _ (room : Room) (held : Opening) (allowed : mayOpen held ≡ true) where
   abbrev StandsAt : List Said → Out → Type 0
   StandsAt p o = (o .walk ≡ walkAt held p) × (o .left ≡ tablesAt room p)
 
@@ -57,11 +57,11 @@ module _ (room : Room) (held : Quarter) (allowed : isAllowed held ≡ true) wher
       let one = one-taken p g o at (firstLine bytes) (all .0) in
       taken-at more (recordOn (firstLine bytes) ∷ p) (one .0) (lineStep (o .walk) (firstLine bytes) (o .left)) (one .1) (all .1)
 
-pub opened-at : (held : Quarter) (t : Tables) → isAllowed held ≡ true → (openStep held t .walk ≡ walkAt held []) × (openStep held t .left ≡ tablesAt (roomOf t) [])
+pub opened-at : (held : Opening) (t : Tables) → mayOpen held ≡ true → (openStep held t .walk ≡ walkAt held []) × (openStep held t .left ≡ tablesAt (roomOf t) [])
 opened-at held t e = (rw (open-allowed held e), rw (open-allowed held e) (sym (from-start (roomOf t))))
 
 -- After any lines that were taken the state and both tables are what the records before say: while an E is open the id table holds its numbers in file
 -- order, then zeros, and all zeros if none is open; entries are FEIN, 0, 0 until their T (`tablesAt`).
-pub tables-at : (held : Quarter) (t : Tables) (lines : List (List ℕ)) → isAllowed held ≡ true → AllTaken lines (openStep held t)
+pub tables-at : (held : Opening) (t : Tables) (lines : List (List ℕ)) → mayOpen held ≡ true → AllTaken lines (openStep held t)
     → (afterLines lines (openStep held t) .walk ≡ walkAt held (lentRecords [] lines)) × (afterLines lines (openStep held t) .left ≡ tablesAt (roomOf t) (lentRecords [] lines))
 tables-at held t lines allowed all = taken-at (roomOf t) held allowed lines [] (good-none (roomOf t) held) (openStep held t) (opened-at held t allowed) all

@@ -12,11 +12,11 @@ use lib.Seq.{take-all, drop-drop}
 use borrow.Author.Tests.{eq-eqb, ne-eqb, eqb-false}
 use Rattle.laws.specs.Choice.{if_then_else_}
 use Rattle.laws.specs.Lists.{behind}
-use Rattle.calendar.specs.declared.Quarter.{Quarter}
 use Rattle.chars.specs.Characters.{capitals}
 use Rattle.lines.specs.Laws.{size-within}
 use Rattle.lines.specs.Lines.{firstLine}
 use Rattle.edits.specs.declared.Context.{Context}
+use Rattle.edits.specs.declared.Opening.{Opening}
 use Rattle.record.specs.Among.{passed-size}
 use Rattle.record.specs.Judge.{Judged, refusal, passed, seenOn, judgeAmong}
 use Rattle.record.specs.declared.said.Said.{Said}
@@ -35,7 +35,7 @@ all remain = remain
 all-lending : Lending all
 all-lending remain = inr (le-refl remain)
 
-pub whole-means : (held : Quarter) (file : List ℕ) (t : Tables) → calls all 0 file (openStep held t .walk) (openStep held t .left) ≡ wholeFile held file t
+pub whole-means : (held : Opening) (file : List ℕ) (t : Tables) → calls all 0 file (openStep held t .walk) (openStep held t .left) ≡ wholeFile held file t
 whole-means held file t = walk-means all all-lending held file t
 
 -- ---- from where the last call ended

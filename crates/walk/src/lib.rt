@@ -1,5 +1,5 @@
 // The walk over a wage file: opening, one line, the end; and a whole file in one slice.
-use calendar::Quarter;
+use edits::Opening;
 use record::said;
 use state::State;
 use step::Answer;
@@ -115,8 +115,8 @@ fn change_list(list: &mut [Employer], change: Change)
     list::put(list, w.closed_at, list::closed_entry(old, w.count, w.cents));
 }
 
-// Opens a walk. A quarter that the paper does not allow is 70, and nothing is touched.
-pub fn open(held: Quarter, ids: &mut [u32], list: &mut [Employer]) -> Answer
+// Opens a walk. A quarter that the paper does not allow is 70, a format that is none 73, and nothing is touched.
+pub fn open(held: Opening, ids: &mut [u32], list: &mut [Employer]) -> Answer
     ensures { λ r. ⌜ outOf r (tablesOf (now (ids .exit)) (now (list .exit))) ≡ openStep held (tablesOf (now (ids .entry)) (now (list .entry))) ⌝ }
 {
     let m = step::open_move(held);
@@ -214,7 +214,7 @@ fn next_place(at: usize, reply: Reply, end: usize) -> usize
 }
 
 // A whole file in one slice: opening, a call for each line, and the end call, also after a refusal.
-pub fn whole(held: Quarter, bytes: &[u8], ids: &mut [u32], list: &mut [Employer]) -> Answer
+pub fn whole(held: Opening, bytes: &[u8], ids: &mut [u32], list: &mut [Employer]) -> Answer
     ensures { λ r. ⌜ outOf r (tablesOf (now (ids .exit)) (now (list .exit))) ≡ wholeFile held (now (bytes .entry)) (tablesOf (now (ids .entry)) (now (list .entry))) ⌝ }
 {
     let opened = open(held, ids, list);

@@ -11,8 +11,11 @@ use borrow.Author.Tests.{not-false}
 use Rattle.laws.specs.Choice.{if_then_else_}
 use Rattle.reason.specs.Numbers.{isListed}
 use Rattle.reason.specs.Once.{number-listed}
-use Rattle.edits.specs.declared.Phase.the-variants.{BeforeA, AfterA, EOpen, AfterT, AfterF}
 use Rattle.tables.specs.Room.{Room}
+use Rattle.edits.specs.Formats.{formatOf, numberOf}
+use Rattle.edits.specs.declared.Phase.the-variants.{BeforeA, AfterA, EOpen, AfterT, AfterF}
+use Rattle.edits.specs.declared.format.Format.{Format}
+use Rattle.edits.specs.declared.format.Format.the-variants.{Pfml, Unknown as NoFormat}
 use Rattle.state.specs.Once.{same-walk}
 use Rattle.state.specs.Unfit.{isLeft, unfit}
 use Rattle.state.specs.UnfitLaws.{left-not-72, fit-standing}
@@ -21,13 +24,17 @@ use Rattle.state.specs.declared.Stage.{Stage}
 use Rattle.state.specs.declared.Stage.the-variants.{Reading, Accepted, Refused}
 use Rattle.state.specs.declared.State.{State}
 use Rattle.words.specs.Reading.{nowhere-told, unnamed-told, few-told, none-told, all-told}
-use Rattle.words.specs.Words.{wordCount, standingWords, numberWords, putWords, mostLine, mostColumn, HeldStanding, Held, word, standingIn, unfitWalk, walkTold, walkIn}
+use Rattle.words.specs.Words.{wordCount, standingWords, numberWords, putWords, mostLine, mostColumn, HeldStanding, Held, word, flagWord, flagIn, standingIn, unfitWalk, walkTold, walkIn}
 use Rattle.words.specs.Writing.{firstFour, four, enough}
 
 -- ---- there and back
-flag-back : (flag : Bool) → not (eqb (if flag then 1 else 0) 0) ≡ flag
+flag-back : (flag : Bool) → flagIn (flagWord flag) ≡ flag
 flag-back true = refl
 flag-back false = refl
+
+format-back : (format : Format) → formatOf (numberOf format) ≡ format
+format-back Pfml = refl
+format-back NoFormat = refl
 
 standing-back : (stage : Stage) (rest : List ℕ) → HeldStanding (standingOf stage) → standingIn (standingWords (standingOf stage) ++ rest) ≡ some (standingOf stage)
 standing-back (Reading BeforeA) rest held = refl
@@ -51,7 +58,7 @@ module _ (st : State) (words : List ℕ) (held : Held (walkOf st)) (room : wordC
   numbers-back : walkTold (firstFour first ++ rest) (some (standingOf (st .stage))) ≡ walkOf st
   numbers-back =
       let lines : min (st .lines) mostLine ≡ st .lines = omega arith in
-      rw (lines, flag-back (st .open .follow))
+      rw (lines, flag-back (st .open .follow), flag-back (st .open .noted), format-back (st .held .format))
 
   -- State to words to state: nothing is lost.
   pub words-back : walkIn (putWords (walkOf st) words) ≡ walkOf st
@@ -75,7 +82,7 @@ pub data Unknown (words : List ℕ) : Type 0 where
 
 pub unfit-72 : (room : Room) → unfit room unfitWalk ≡ true
 unfit-72 room =
-    not-eq-not .0 (λ fit. left-not-72 72 (not-false (isLeft 72) (fit-standing room unfitWalk fit)) refl)
+    not-eq-not .0 (λ fit. left-not-72 NoFormat 72 (not-false (isLeft NoFormat 72) (fit-standing room unfitWalk fit)) refl)
 
 unknown-walk : (words : List ℕ) → Unknown words → walkIn words ≡ unfitWalk
 unknown-walk words (few h) = few-told words h

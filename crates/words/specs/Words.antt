@@ -1,19 +1,23 @@
--- The state of a walk as 17 words of 64 bits that a caller lends, and the walk that any words tell.
+-- The state of a walk as 27 words of 64 bits that a caller lends, and the walk that any words tell.
 use Prim.Native.Nat.{ℕ, _≤_, min}
-use mathlib.Core.Bool.{not}
+use mathlib.Core.Bool.{Bool, not}
 use mathlib.Core.List.{List, [], _∷_, _++_}
 use mathlib.Core.Option.{Option, none, some}
 use lib.Dec.{ltb, eqb}
 use lib.ListN.{length, getD, drop}
 use Rattle.laws.specs.Choice.{if_then_else_}
 use Rattle.reason.specs.Numbers.{isListed, notice}
+use Rattle.edits.specs.Formats.{formatOf, numberOf}
+use Rattle.edits.specs.declared.Open.{Open}
 use Rattle.edits.specs.declared.Phase.the-variants.{BeforeA, AfterA, EOpen, AfterT, AfterF}
+use Rattle.edits.specs.declared.Totals.{Totals}
+use Rattle.edits.specs.declared.format.Format.the-variants.{Unknown as NoFormat}
 use Rattle.state.specs.Walks.{Standing, reading, accepted, refused, Walk, standingOf, refusedWalk}
 use Rattle.words.specs.declared.Told.{Told}
 use Rattle.words.specs.declared.Told.the-variants.{Known, Unknown}
 
 abbrev pub wordCount : ℕ
-wordCount = 17
+wordCount = 27
 
 -- ---- the words of a walk
 -- Where it stands; then the refusal's number, line and column, zeros where it is not refused.
@@ -26,16 +30,25 @@ standingWords (reading AfterF) = 4 ∷ 0 ∷ 0 ∷ 0 ∷ []
 standingWords accepted = 5 ∷ 0 ∷ 0 ∷ 0 ∷ []
 standingWords (refused says) = 6 ∷ says .number ∷ says .line ∷ says .column ∷ []
 
+-- A flag is 1 or 0.
+abbrev pub flagWord : Bool → ℕ
+flagWord flag = if flag then 1 else 0
+
 -- Then lines read; the quarter held, and A's; the open E's FEIN, its flag that S follow, S count, cents; the file's S count, employers, cents; ids in
--- use.
+-- use. Behind them the format's number, and what PFML has none of: the open E's second sum, its other records, the nearest of them, whether a note is among
+-- them, and its account number; and the file's second sum, other records and notes.
 abbrev pub numberWords : Walk → List ℕ
 numberWords walk =
     walk .lines
     ∷ walk .held .year ∷ walk .held .month
     ∷ walk .filed .year ∷ walk .filed .month
-    ∷ walk .open .fein ∷ (if walk .open .follow then 1 else 0) ∷ walk .open .count ∷ walk .open .sum
+    ∷ walk .open .fein ∷ flagWord (walk .open .follow) ∷ walk .open .count ∷ walk .open .sum
     ∷ walk .all .count ∷ walk .all .employers ∷ walk .all .sum
-    ∷ walk .used ∷ []
+    ∷ walk .used
+    ∷ numberOf (walk .held .format)
+    ∷ walk .open .second ∷ walk .open .others ∷ walk .open .nearest ∷ flagWord (walk .open .noted)
+    ∷ walk .open .«account_head» ∷ walk .open .«account_tail»
+    ∷ walk .all .second ∷ walk .all .others ∷ walk .all .notes ∷ []
 
 abbrev pub wordsOf : Walk → List ℕ
 wordsOf walk = standingWords (walk .standing) ++ numberWords walk
@@ -92,19 +105,49 @@ standingIn words = getD (standings words) (word words 0) none
 
 -- Where nothing is told: a refused walk with 72, which no refusal leaves in the state.
 abbrev pub unfitWalk : Walk
-unfitWalk = refusedWalk (notice 72 0 0)
+unfitWalk = refusedWalk NoFormat (notice 72 0 0)
 
 -- A flag that is not zero is 1.
+abbrev pub flagIn : ℕ → Bool
+flagIn n = not (eqb n 0)
+
+-- The open E, and the file.
+abbrev pub openTold : List ℕ → Open
+openTold words =
+    record {
+      fein = word words 9;
+      follow = flagIn (word words 10);
+      count = word words 11;
+      sum = word words 12;
+      second = word words 18;
+      others = word words 19;
+      nearest = word words 20;
+      noted = flagIn (word words 21);
+      «account_head» = word words 22;
+      «account_tail» = word words 23;
+    }
+
+abbrev pub totalsTold : List ℕ → Totals
+totalsTold words =
+    record {
+      count = word words 13;
+      employers = word words 14;
+      sum = word words 15;
+      second = word words 24;
+      others = word words 25;
+      notes = word words 26;
+    }
+
 abbrev pub walkTold : List ℕ → Option Standing → Walk
 walkTold words none = unfitWalk
 walkTold words (some standing) =
     record {
       standing = standing;
       lines = lineIn (word words 4);
-      held = record { year = word words 5; month = word words 6 };
+      held = record { format = formatOf (word words 17); year = word words 5; month = word words 6 };
       filed = record { year = word words 7; month = word words 8 };
-      «open» = record { fein = word words 9; follow = not (eqb (word words 10) 0); count = word words 11; sum = word words 12 };
-      all = record { count = word words 13; employers = word words 14; sum = word words 15 };
+      «open» = openTold words;
+      all = totalsTold words;
       used = word words 16;
     }
 

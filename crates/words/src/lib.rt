@@ -1,8 +1,11 @@
 // The state of a walk as words that a caller lends, for callers in a language that has no `State`.
 use calendar::Quarter;
 use edits::Open;
+use edits::Opening;
 use edits::Phase;
 use edits::Totals;
+use edits::format;
+use edits::format::Format;
 use reason::Reason;
 use reason::Refusal;
 use state::Stage;
@@ -11,13 +14,12 @@ ghost use Prim.Native.Nat.{_≤_, min};
 ghost use mathlib.Core.Option.{some};
 ghost use mathlib.Core.Path.{_≡_};
 ghost use lib.ListN.{length};
-ghost use Rattle.laws.specs.Choice.{if_then_else_};
 ghost use Rattle.reason.specs.Numbers.{noticeOf};
 ghost use Rattle.state.specs.Walks.{reading, refused, standingOf, walkOf};
-ghost use Rattle.words.specs.Words.{wordCount, standingWords, wordsOf, putWords, HeldStanding, Held, lineIn, columnIn, refusalIn, standingIn, unfitWalk, walkTold, walkIn, toldOf};
+ghost use Rattle.words.specs.Words.{wordCount, standingWords, flagWord, wordsOf, putWords, HeldStanding, Held, lineIn, columnIn, refusalIn, standingIn, unfitWalk, openTold, totalsTold, walkTold, walkIn, toldOf};
 
 // How many words a state is.
-pub const WORDS: usize = 17;
+pub const WORDS: usize = 27;
 
 // What the first words tell of where a walk stands.
 enum Told {
@@ -56,7 +58,7 @@ fn stage_words(stage: Stage) -> [u64; 4]
 }
 
 fn flag_word(flag: bool) -> u64
-    ensures { λ r. ⌜ r ≡ (if flag then 1 else 0) ⌝ }
+    ensures { λ r. ⌜ r ≡ flagWord flag ⌝ }
 {
     if flag { 1 } else { 0 }
 }
@@ -68,6 +70,7 @@ fn words_of(st: State) -> [u64; WORDS]
     let stage = st.stage;
     let first = stage_words(stage);
     let held = st.held;
+    let format = held.format;
     let filed = st.filed;
     let open = st.open;
     let all = st.all;
@@ -89,6 +92,16 @@ fn words_of(st: State) -> [u64; WORDS]
         all.employers,
         all.sum,
         st.used as u64,
+        format::number_of(format),
+        open.second,
+        open.others,
+        open.nearest,
+        flag_word(open.noted),
+        open.account_head,
+        open.account_tail,
+        all.second,
+        all.others,
+        all.notes,
     ]
 }
 
@@ -160,6 +173,38 @@ fn stage_in(words: &[u64]) -> Told
     }
 }
 
+fn open_in(words: &[u64]) -> Open
+    requires { ⌜ wordCount ≤ length (now words) ⌝ }
+    ensures { λ r. ⌜ r ≡ openTold (now (words .entry)) ⌝ }
+{
+    Open {
+        fein: words[9],
+        follow: words[10] != 0,
+        count: words[11],
+        sum: words[12],
+        second: words[18],
+        others: words[19],
+        nearest: words[20],
+        noted: words[21] != 0,
+        account_head: words[22],
+        account_tail: words[23],
+    }
+}
+
+fn totals_in(words: &[u64]) -> Totals
+    requires { ⌜ wordCount ≤ length (now words) ⌝ }
+    ensures { λ r. ⌜ r ≡ totalsTold (now (words .entry)) ⌝ }
+{
+    Totals {
+        count: words[13],
+        employers: words[14],
+        sum: words[15],
+        second: words[24],
+        others: words[25],
+        notes: words[26],
+    }
+}
+
 fn state_told(stage: Stage, words: &[u64]) -> State
     requires { ⌜ wordCount ≤ length (now words) ⌝ }
     ensures { λ r. ⌜ walkOf r ≡ walkTold (now (words .entry)) (some (standingOf stage)) ⌝ }
@@ -167,7 +212,8 @@ fn state_told(stage: Stage, words: &[u64]) -> State
     State {
         stage,
         lines: line_in(words[4]),
-        held: Quarter {
+        held: Opening {
+            format: format::format_of(words[17]),
             year: words[5],
             month: words[6],
         },
@@ -175,17 +221,8 @@ fn state_told(stage: Stage, words: &[u64]) -> State
             year: words[7],
             month: words[8],
         },
-        open: Open {
-            fein: words[9],
-            follow: words[10] != 0,
-            count: words[11],
-            sum: words[12],
-        },
-        all: Totals {
-            count: words[13],
-            employers: words[14],
-            sum: words[15],
-        },
+        open: open_in(words),
+        all: totals_in(words),
         used: words[16] as usize,
     }
 }
@@ -193,11 +230,14 @@ fn state_told(stage: Stage, words: &[u64]) -> State
 fn unfit_state() -> State
     ensures { λ r. ⌜ walkOf r ≡ unfitWalk ⌝ }
 {
-    state::refused(Refusal {
-        line: 0,
-        column: 0,
-        reason: Reason::StateUnfit,
-    })
+    state::refused(
+        Format::Unknown,
+        Refusal {
+            line: 0,
+            column: 0,
+            reason: Reason::StateUnfit,
+        },
+    )
 }
 
 // The state that words tell. Where they tell none it is one to which every call answers 72.

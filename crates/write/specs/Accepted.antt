@@ -86,4 +86,4 @@ module _ (walk : Walk) (t : Tables) (fit : unfit (roomOf t) walk ≡ false) (lin
     at (refused why) stands =
         let zero = ap (λ (n : Notice). n .number) (says-standing says (refused why) stands) in
         let left = ap (λ (s : Standing). standingUnfit s (walk .held) (walk .filed)) (sym stands) ∙ fit-standing (roomOf t) walk fit in
-        absurd (left-not-0 (why .number) (not-false _ left) zero)
+        absurd (left-not-0 (walk .held .format) (why .number) (not-false _ left) zero)

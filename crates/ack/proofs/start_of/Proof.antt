@@ -4,7 +4,7 @@ use Rattle.ack.proofs.start_of.Statement.{statement}
 use Rattle.ack.proofs.start_of.Tie as tie
 
 returns : tie.Need-returns
-returns c = rw (c .before .before .before .enum-told .given .1, c .before .before .has-header .ensures, c .opened .ensures, c .before .no-quarter .ensures)
+returns c = rw (c .before .before .before .enum-told .given .1, c .before .before .has-header .ensures, c .opened .ensures, c .before .no-opening .ensures)
 
 returns-2 : tie.Need-returns-2
 returns-2 c = rw (c .before .progress .given .1)

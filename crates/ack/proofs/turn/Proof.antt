@@ -11,9 +11,9 @@ use mir.Val.{WT, hasTy}
 use denote.Builtin.{u8, u32}
 use denote.Enum.Laws as EL
 use denote.Struct.Laws as LL
-use Rattle.calendar.specs.declared.Quarter.{Quarter}
-use Rattle.calendar.proofs.Quarter as Q
-use Rattle.calendar.proofs.Quarter.Laws as Q′
+use Rattle.edits.specs.declared.Opening.{Opening}
+use Rattle.edits.proofs.Opening as O
+use Rattle.edits.proofs.Opening.Laws as O′
 use Rattle.tables.specs.Room.{Tables as Tables′, tables as tablesOf′}
 use Rattle.tables.specs.declared.Employer.{Employer}
 use Rattle.tables.proofs.Employer as E
@@ -27,7 +27,7 @@ use Rattle.state.proofs.State.Laws as S′
 use Rattle.step.specs.Steps.{Out, openStep}
 use Rattle.step.proofs.Answer as An
 use Rattle.step.proofs.Answer.Laws as An′
-use Rattle.walk.proofs.Values.{quarter-val, state-val, state-in}
+use Rattle.walk.proofs.Values.{opening-val, state-val, state-in}
 use Rattle.walk.proofs.Called.{opens as open-call}
 use Rattle.walk.proofs.open.Symbol.{name as #open, routine as open-routine}
 use Rattle.walk.proofs.open.Met as open-met
@@ -151,13 +151,13 @@ module _ {M : Type 1} (𝓤 : URA M) (H : Heap 𝓤) (A : Atoms 𝓤) (W : Given
         (λ opens.
         move ! (3 ∷ []) $ twice ! u8 (L .κ₀) (L .src) (s₀ ∷ []) $ move ! (2 ∷ 0 ∷ []) $
         -- [κ₀'s token; the bytes; the bytes; κ₁'s; κ₂'s; ids; the list; _22 at 7; …]
-        asks ! (header W mem run) known-header fm (((L .κ₀, tt), (L .q₀, tt), tt, (L .src, tt), (s₀ ∷ [], tt)), tt) tt 2 (held, tt) refl (and-then ! (var ! 47 refl) (no-more !)) (λ quarter _ reads quarter-is.
-        receives ! 30 refl (LL.lawful Q.the-type Q′.the-laws 𝓤 H A W .typed quarter _ quarter-is .0) $ move ! (0 ∷ 2 ∷ 3 ∷ 1 ∷ []) $
+        asks ! (header W mem run) known-header fm (((L .κ₀, tt), (L .q₀, tt), tt, (L .src, tt), (s₀ ∷ [], tt)), tt) tt 2 (held, tt) refl (and-then ! (var ! 47 refl) (no-more !)) (λ opening _ reads opening-is.
+        receives ! 30 refl (LL.lawful O.the-type O′.the-laws 𝓤 H A W .typed opening _ opening-is .0) $ move ! (0 ∷ 2 ∷ 3 ∷ 1 ∷ []) $
         relends ! 42 28 26 (room₁ .0) refl refl refl refl refl refl refl refl $ relends ! 40 24 22 (room₂ .0) refl refl refl refl refl refl refl refl $
         lends-both ! tt L (L .ids .now) (L .list .now) (λ ν₁ ν₂ δ₁ δ₂ p₁ p₂.
         -- [ν₁'s token; ν₂'s; ids; the list; κ₀'s; the bytes; what ids keep; what the list keeps; _22 at 8; …]
-        asks ! (open-call W mem run) known-open fm (((ν₁ ∷ [], (ν₂ ∷ [], tt)), (fullShare, (fullShare, tt)), tt, (quarter, (named-as (L .ids) δ₁, (named-as (L .list) δ₂, tt))), (quarter-val quarter ∷ [], (s₁ ∷ [], (s₂ ∷ [], tt)))), tt) tt
-        4 (made (LL.makes Q.the-type Q′.the-plain 𝓤 H A quarter _ quarter-is), (held, (held, tt))) refl (and-then ! (var ! 32 refl) (and-then ! (var ! 28 refl) (and-then ! (var ! 24 refl) (no-more !)))) (λ o ws opened o-is.
+        asks ! (open-call W mem run) known-open fm (((ν₁ ∷ [], (ν₂ ∷ [], tt)), (fullShare, (fullShare, tt)), tt, (opening, (named-as (L .ids) δ₁, (named-as (L .list) δ₂, tt))), (opening-val opening ∷ [], (s₁ ∷ [], (s₂ ∷ [], tt)))), tt) tt
+        4 (made (LL.makes O.the-type O′.the-plain 𝓤 H A opening _ opening-is), (held, (held, tt))) refl (and-then ! (var ! 32 refl) (and-then ! (var ! 28 refl) (and-then ! (var ! 24 refl) (no-more !)))) (λ o ws opened o-is.
         let xs = ws .1 .0 in let ys = ws .1 .1 .0 in let fields = LL.owed An.the-type An′.the-laws o _ o-is in
         receives ! 38 refl (LL.lawful An.the-type An′.the-laws 𝓤 H A W .typed o _ o-is .0) $ both-back ! tt L (L .ids .now) (L .list .now) δ₁ δ₂ xs ys p₁ p₂ (λ same₁ same₂.
         relends ! 42 20 18 (room₁ .0) refl refl refl refl refl refl refl refl $ relends ! 40 16 14 (room₂ .0) refl refl refl refl refl refl refl refl $
@@ -169,7 +169,7 @@ module _ {M : Type 1} (𝓤 : URA M) (H : Heap 𝓤) (A : Atoms 𝓤) (W : Given
         let xs′ = ws .1 .1 .1 .1 .0 in let ys′ = ws .1 .1 .1 .1 .1 .0 in
         receives ! 52 refl (typed r r-is) $ move ! (1 ∷ 2 ∷ 3 ∷ 4 ∷ 0 ∷ []) $ both-back ! tt L xs ys δ₃ δ₄ xs′ ys′ p₃ p₄ (λ same₃ same₄.
         returns-within ! Post refl (look ! 50 refl) $ lets-go ! 6 refl $ answers r xs′ ys′ r-is (same₃ ∙ same₁) (same₄ ∙ same₂)
-        (said .0 ∙ ap (λ (o : Out). linesTurn ended 0 (drop 7 bytes) (o .walk) (o .left)) (opened ∙ ap (λ (q : Quarter). openStep q t) reads) ∙ sym (starts-opening ended bytes t (progressOf progress) (startingOf b) starts (is-true (b .opens) opens))) (said .1)))))))))
+        (said .0 ∙ ap (λ (o : Out). linesTurn ended 0 (drop 7 bytes) (o .walk) (o .left)) (opened ∙ ap (λ (o : Opening). openStep o t) reads) ∙ sym (starts-opening ended bytes t (progressOf progress) (startingOf b) starts (is-true (b .opens) opens))) (said .1)))))))))
         (λ shut. going-on shut)
 
   walk : Sq W (Holding []) (runs (𝓣 .C) (𝓣 .Λ) En (code.function .body) (atRet En Post))

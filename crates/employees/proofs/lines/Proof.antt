@@ -43,6 +43,13 @@ with-one-requires c κs = taken-sums _ _ _ _ _ _ _ _ _ (c .before .before .befor
 add-at : tie.Need-add-at Inv-loop μ-loop
 add-at c = record { fits = seen-within _ _ _ _ _ (c .before .before .before .before .before .before .before .before .before .before .before .before .before .before .sight-at .ensures) (2 ^ 64) (c .before .before .before .before .before .before .before .before .before .before .before .before .before .before .before .before .loop .inv .1) (omega (arith, c .before .before .before .before .before .before .before .before .before .before .before .before .before .before .before .before .before .before .before .before .before .good .1 .0)) }
 
+-- A turn has at least one line left. `search` looks through so many facts and no more: among those of a wide state this one is handed over.
+sub-left : tie.Need-sub-left Inv-loop μ-loop
+sub-left c = search (needs, c .before .before .before .before .before .before .before .before .before .before .before .before .before .before .before .loop-test .taken)
+
+loop-less : tie.Need-loop-less Inv-loop μ-loop
+loop-less c = search (needs, c .before .before .before .before .before .before .before .before .before .before .before .before .before .before .before .loop-test .taken)
+
 loop-again : tie.Need-loop-again Inv-loop μ-loop
 loop-again c = (
   still-going _ _ _ _ _ _ _ _ _ (c .before .before .before .before .before .before .before .before .before .before .before .before .before .before .before .before .loop .inv .0) _ (c .before .before .before .before .before .before .before .before .before .before .before .before .before .before .sight-at .ensures) (sym (c .before .before .before .before .before .before .before .before .before .before .before .takes .ensures) ∙ not-false (c .before .before .before .before .before .before .before .before .before .before .before .takes .result) (c .before .before .before .before .before .before .before .before .before .before .if1 .left)) (c .before .before .before .before .before .before .before .before .before .before .before .before .before .before .before .loop-test .taken) _ _ _ (c .before .with-one .ensures) (c .before .before .before .before .before .before .before .before .keep .ensures) (c .before .before .before .before .mark .ensures),
@@ -76,8 +83,8 @@ lines-spec =
     (λ c κs. search needs)
     with-one-requires
     add-at
-    (λ c. search needs)
-    (λ c. search needs)
+    sub-left
+    loop-less
     loop-again
     same-length-3
     same-length-4

@@ -9,9 +9,6 @@ use Rattle.state.proofs.refused.Tie as tie
 no-quarter-requires : tie.Need-no-quarter-requires
 no-quarter-requires c κs = search needs
 
-no-quarter-requires-2 : tie.Need-no-quarter-requires-2
-no-quarter-requires-2 c κs = search needs
-
 none-open-requires : tie.Need-none-open-requires
 none-open-requires c κs = search needs
 
@@ -19,9 +16,8 @@ no-totals-requires : tie.Need-no-totals-requires
 no-totals-requires c κs = search needs
 
 returns : tie.Need-returns
-returns c = rw (c .before .before .before .no-quarter .ensures, c .before .before .no-quarter2 .ensures, c .before .none-open .ensures, c .no-totals .ensures)
+returns c = rw (c .before .before .no-quarter .ensures, c .before .none-open .ensures, c .no-totals .ensures)
 
 pub refused-spec : {M : Type 1} → statement M
 refused-spec =
-    tie.close
-    (tie.spec no-quarter-requires no-quarter-requires-2 none-open-requires no-totals-requires returns)
+    tie.close (tie.spec no-quarter-requires none-open-requires no-totals-requires returns)

@@ -6,9 +6,9 @@ use lib.ListN.{length}
 use denote.Builtin.{u32}
 use denote.Enum.Laws as EL
 use denote.Struct.Laws as LL
-use Rattle.calendar.specs.declared.Quarter.{Quarter}
-use Rattle.calendar.proofs.Quarter as Q
-use Rattle.calendar.proofs.Quarter.Laws as Q′
+use Rattle.edits.specs.declared.Opening.{Opening}
+use Rattle.edits.proofs.Opening as O
+use Rattle.edits.proofs.Opening.Laws as O′
 use Rattle.tables.specs.Room.{tables as tablesOf′}
 use Rattle.tables.specs.declared.Employer.{Employer}
 use Rattle.tables.proofs.Employer as T
@@ -26,7 +26,7 @@ use Rattle.step.proofs.Move.Laws as Mv′
 use Rattle.step.proofs.open_move.Symbol.{name as #open-move, routine as open-move-routine}
 use Rattle.step.proofs.open_move.Met as open-move-met
 use Rattle.walk.specs.Carry.{both-written, open-carried}
-use Rattle.walk.proofs.Values.{quarter-val, answer-val, change-val, change-in, answer-in}
+use Rattle.walk.proofs.Values.{opening-val, answer-val, change-val, change-in, answer-in}
 use Rattle.walk.proofs.Called.{open-move, change-ids, change-list}
 use Rattle.walk.proofs.change_ids.Symbol.{name as #change-ids, routine as change-ids-routine}
 use Rattle.walk.proofs.change_ids.Met as change-ids-met
@@ -42,7 +42,7 @@ ends = (gone (λ κs x f. refl), (given-slice 0 tt (plain (λ _. u32)), (given-s
 
 module _ {M : Type 1} (𝓤 : URA M) (H : Heap 𝓤) (A : Atoms 𝓤) (W : Given 𝓤 H A) (mem : Memory → SProp 𝓤) (run : Routine → Fun 𝓤) (𝓣 : Tables 𝓤 H)
     (known-move : Triple 𝓤 (𝓣 .C #open-move) (Asked (open-move W mem run))) (known-ids : Triple 𝓤 (𝓣 .C #change-ids) (Asked (change-ids W mem run))) (known-list : Triple 𝓤 (𝓣 .C #change-list) (Asked (change-list W mem run)))
-    (κ₀ κ₁ : Lft) (q₀ q₁ : Share) (quarter : Quarter) (ids : RefT (List ℕ)) (list : RefT (List Employer)) (quarter-is : Is Q.the-row quarter (quarter-val quarter ∷ []))
+    (κ₀ κ₁ : Lft) (q₀ q₁ : Share) (opening : Opening) (ids : RefT (List ℕ)) (list : RefT (List Employer)) (opening-is : Is O.the-row opening (opening-val opening ∷ []))
     (room₀ : Room u32 (length (ids .now))) (room₁ : Room T.the-row (length (list .now))) (ps : Places (code.function .locals)) where
   abbrev s₀ : Val
   s₀ = sliceVal (ids .ptr) (length (ids .now))
@@ -54,7 +54,7 @@ module _ {M : Type 1} (𝓤 : URA M) (H : Heap 𝓤) (A : Atoms 𝓤) (W : Given
   En = envOf (code.function .locals) ps
 
   abbrev y : Exit W f.ended ends (f.clauses 𝓤 H A mem run) .Ghost
-  y = (((κ₀, (κ₁, tt)), (q₀, (q₁, tt)), tt, (quarter, (ids, (list, tt))), (quarter-val quarter ∷ [], (s₀ ∷ [], (s₁ ∷ [], tt)))), tt)
+  y = (((κ₀, (κ₁, tt)), (q₀, (q₁, tt)), tt, (opening, (ids, (list, tt))), (opening-val opening ∷ [], (s₀ ∷ [], (s₁ ∷ [], tt)))), tt)
 
   abbrev Post : Val → SProp 𝓤
   Post = Exit W f.ended ends (f.clauses 𝓤 H A mem run) .post y
@@ -63,11 +63,11 @@ module _ {M : Type 1} (𝓤 : URA M) (H : Heap 𝓤) (A : Atoms 𝓤) (W : Given
   fm = fmOf 𝓤 H (W .laws) 𝓣
 
   -- [κ₀'s token; κ₁'s; ids; the list; _9 at 4; _8 at 6; _7 at 8; _6 at 10; _5 at 12; _4 at 14; _3 at 16; _2 at 18; _1 at 20; _0 at 22]
-  walk : Sq W (‵ (flft κ₀ q₀) ∷ ‵ (flft κ₁ q₁) ∷ ‵ (MutSlice (named 0) κ₀ u32 .own ids (s₀ ∷ [])) ∷ ‵ (MutSlice (named 0) κ₁ T.the-row .own list (s₁ ∷ [])) ∷ locals En (none ∷ some (quarter-val quarter) ∷ some s₀ ∷ some s₁ ∷ []) [])
+  walk : Sq W (‵ (flft κ₀ q₀) ∷ ‵ (flft κ₁ q₁) ∷ ‵ (MutSlice (named 0) κ₀ u32 .own ids (s₀ ∷ [])) ∷ ‵ (MutSlice (named 0) κ₁ T.the-row .own list (s₁ ∷ [])) ∷ locals En (none ∷ some (opening-val opening) ∷ some s₀ ∷ some s₁ ∷ []) [])
       (runs (𝓣 .C) (𝓣 .Λ) En (code.function .body) (atRet En Post))
   walk =
-      asks ! (open-move W mem run) known-move fm ((tt, tt, tt, (quarter, tt), (quarter-val quarter ∷ [], tt)), tt) tt
-      0 (made (LL.makes Q.the-type Q′.the-plain 𝓤 H A quarter _ quarter-is), tt) refl (and-then ! (var ! 20 refl) (no-more !)) (λ m _ moved m-is. let fields = LL.owed Mv.the-type Mv′.the-laws m _ m-is in
+      asks ! (open-move W mem run) known-move fm ((tt, tt, tt, (opening, tt), (opening-val opening ∷ [], tt)), tt) tt
+      0 (made (LL.makes O.the-type O′.the-plain 𝓤 H A opening _ opening-is), tt) refl (and-then ! (var ! 20 refl) (no-more !)) (λ m _ moved m-is. let fields = LL.owed Mv.the-type Mv′.the-laws m _ m-is in
       receives ! 14 refl (LL.lawful Mv.the-type Mv′.the-laws 𝓤 H A W .typed m _ m-is .0) $ relends ! 18 10 8 (room₀ .0) refl refl refl refl refl refl refl refl $
       move ! (0 ∷ 2 ∷ []) $
       asks ! (change-ids W mem run) known-ids fm (((κ₀, tt), (q₀, tt), tt, (ids, (m .change, tt)), (s₀ ∷ [], (change-val (m .change) ∷ [], tt))), tt) tt
@@ -81,17 +81,17 @@ module _ {M : Type 1} (𝓤 : URA M) (H : Heap 𝓤) (A : Atoms 𝓤) (W : Given
       replaces ! 12 refl (tt, tt) $ sets ! (of-opd ! (part ! 14 answer-in refl refl)) 22 refl (LL.lawful An.the-type An′.the-laws 𝓤 H A W .typed (m .answer) _ (fields .1 .0) .0) $
       returns ! (look ! 22 refl) $ lets-go ! 4 refl $ move ! (2 ∷ 0 ∷ 3 ∷ 1 ∷ []) $ measures ! 2 refl (λ same₀. measures ! 3 refl (λ same₁.
       by ! (finishes W f.ended ends (f.clauses 𝓤 H A mem run) y (answer-val (m .answer)) (m .answer) (tt, (xs .0, (ys .0, tt))) (tt, (same₀, (same₁, tt)))
-      (outOf (m .answer) (tablesOf′ (xs .0) (ys .0)) ≡ openStep quarter (tablesOf′ (ids .now) (list .now))) refl
-      (both-written m (ids .now) (list .now) (xs .0) (ys .0) wrote₀ wrote₁ ∙ open-carried m (ids .now) (list .now) quarter moved) (LL.makes An.the-type An′.the-plain 𝓤 H A (m .answer) _ (fields .1 .0))))))))
+      (outOf (m .answer) (tablesOf′ (xs .0) (ys .0)) ≡ openStep opening (tablesOf′ (ids .now) (list .now))) refl
+      (both-written m (ids .now) (list .now) (xs .0) (ys .0) wrote₀ wrote₁ ∙ open-carried m (ids .now) (list .now) opening moved) (LL.makes An.the-type An′.the-plain 𝓤 H A (m .answer) _ (fields .1 .0))))))))
 
 pub open-spec : {M : Type 1} → stated.statement M
 unfolding code.routine tablesOf
 open-spec 𝓤 H 𝓜 𝓖 𝓡 =
     proves 𝓤 H 𝓜 𝓖 𝓡 f.ended ends (f.clauses 𝓤 H (𝓖 .A) (𝓜 .mem) (𝓡 .run)) code.env #open code.function (code.unfolded 𝓤 H 𝓜 𝓡)
-    (λ κs. (LL.vals Q.the-type Q′.the-laws, (slice-vals, (slice-vals, tt))))
-    (λ κs. (LL.tells Q.the-type Q′.the-laws, (mut-slice-tells (named 0) (κs .0) u32, (mut-slice-tells (named 0) (κs .1 .0) T.the-row, tt))))
+    (λ κs. (LL.vals O.the-type O′.the-laws, (slice-vals, (slice-vals, tt))))
+    (λ κs. (LL.tells O.the-type O′.the-laws, (mut-slice-tells (named 0) (κs .0) u32, (mut-slice-tells (named 0) (κs .1 .0) T.the-row, tt))))
     (λ κs qs bounds a g are. let W = givenOf 𝓤 H 𝓜 𝓖 in (
-      (LL.lawful Q.the-type Q′.the-laws 𝓤 H (𝓖 .A) W .typed (a .0) _ (are .0) .0, ((tt, (tt, (record { fits = are .1 .0 .0 .1 .0 }, tt))), ((tt, (tt, (record { fits = are .1 .1 .0 .0 .1 .0 }, tt))), tt))),
+      (LL.lawful O.the-type O′.the-laws 𝓤 H (𝓖 .A) W .typed (a .0) _ (are .0) .0, ((tt, (tt, (record { fits = are .1 .0 .0 .1 .0 }, tt))), ((tt, (tt, (record { fits = are .1 .1 .0 .0 .1 .0 }, tt))), tt))),
       λ ps. lose ! 2 $ walk 𝓤 H (𝓖 .A) W (𝓜 .mem) (𝓡 .run) (tablesOf 𝓤 H 𝓜 (tables 𝓤 H 𝓜 𝓡 code.env))
           (cited 𝓤 H (Asked (open-move W (𝓜 .mem) (𝓡 .run))) 𝓜 𝓡 code.env #open-move open-move-routine code.calls-step·open-move (open-move-met.met 𝓤 H 𝓜 𝓖 𝓡))
           (cited 𝓤 H (Asked (change-ids W (𝓜 .mem) (𝓡 .run))) 𝓜 𝓡 code.env #change-ids change-ids-routine code.calls-walk·change-ids (change-ids-met.met 𝓤 H 𝓜 𝓖 𝓡))

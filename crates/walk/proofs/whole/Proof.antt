@@ -9,9 +9,9 @@ use types.Run.{land-last}
 use denote.Builtin.{u8, u32}
 use denote.Enum.Laws as EL
 use denote.Struct.Laws as LL
-use Rattle.calendar.specs.declared.Quarter.{Quarter}
-use Rattle.calendar.proofs.Quarter as Q
-use Rattle.calendar.proofs.Quarter.Laws as Q′
+use Rattle.edits.specs.declared.Opening.{Opening}
+use Rattle.edits.proofs.Opening as O
+use Rattle.edits.proofs.Opening.Laws as O′
 use Rattle.tables.specs.Room.{tables as tablesOf′}
 use Rattle.tables.specs.declared.Employer.{Employer}
 use Rattle.tables.proofs.Employer as T
@@ -32,7 +32,7 @@ use Rattle.step.proofs.Reply.Laws as R′
 use Rattle.walk.specs.Calls.{calls, wholeFile}
 use Rattle.walk.specs.WholeLaws.{all, whole-means, loop-done}
 use Rattle.walk.specs.RunLaws.{run-within, run-next, run-farther}
-use Rattle.walk.proofs.Values.{quarter-val, state-val, answer-val, reply-val, reply-in, state-in}
+use Rattle.walk.proofs.Values.{opening-val, state-val, answer-val, reply-val, reply-in, state-in}
 use Rattle.walk.proofs.Called.{opens, lines-at, next-place, ends as end-call}
 use Rattle.walk.proofs.open.Symbol.{name as #open, routine as open-routine}
 use Rattle.walk.proofs.open.Met as open-met
@@ -53,7 +53,7 @@ ends = (gone (λ κs x f. refl), (gone (λ κs x f. refl), (given-slice 1 tt (pl
 
 module _ {M : Type 1} (𝓤 : URA M) (H : Heap 𝓤) (A : Atoms 𝓤) (W : Given 𝓤 H A) (mem : Memory → SProp 𝓤) (run : Routine → Fun 𝓤) (𝓣 : Tables 𝓤 H) (known-open : Triple 𝓤 (𝓣 .C #open) (Asked (opens W mem run)))
     (known-lines : Triple 𝓤 (𝓣 .C #lines-at) (Asked (lines-at W mem run))) (known-next : Triple 𝓤 (𝓣 .C #next-place) (Asked (next-place W mem run))) (known-end : Triple 𝓤 (𝓣 .C #end) (Asked (end-call W mem run)))
-    (κ₀ κ₁ κ₂ : Lft) (q₀ q₁ q₂ : Share) (quarter : Quarter) (src : RefT (List ℕ)) (ids : RefT (List ℕ)) (list : RefT (List Employer)) (quarter-is : Is Q.the-row quarter (quarter-val quarter ∷ []))
+    (κ₀ κ₁ κ₂ : Lft) (q₀ q₁ q₂ : Share) (opening : Opening) (src : RefT (List ℕ)) (ids : RefT (List ℕ)) (list : RefT (List Employer)) (opening-is : Is O.the-row opening (opening-val opening ∷ []))
     (room₀ : Room u8 (length (src .now))) (room₁ : Room u32 (length (ids .now))) (room₂ : Room T.the-row (length (list .now))) (ps : Places (code.function .locals)) where
   abbrev s₀ : Val
   s₀ = sliceVal (src .ptr) (length (src .now))
@@ -68,7 +68,7 @@ module _ {M : Type 1} (𝓤 : URA M) (H : Heap 𝓤) (A : Atoms 𝓤) (W : Given
   En = envOf (code.function .locals) ps
 
   abbrev y : Exit W f.ended ends (f.clauses 𝓤 H A mem run) .Ghost
-  y = (((κ₀, (κ₁, (κ₂, tt))), (q₀, (q₁, (q₂, tt))), tt, (quarter, (src, (ids, (list, tt)))), (quarter-val quarter ∷ [], (s₀ ∷ [], (s₁ ∷ [], (s₂ ∷ [], tt))))), tt)
+  y = (((κ₀, (κ₁, (κ₂, tt))), (q₀, (q₁, (q₂, tt))), tt, (opening, (src, (ids, (list, tt)))), (opening-val opening ∷ [], (s₀ ∷ [], (s₁ ∷ [], (s₂ ∷ [], tt))))), tt)
 
   abbrev Post : Val → SProp 𝓤
   Post = Exit W f.ended ends (f.clauses 𝓤 H A mem run) .post y
@@ -80,7 +80,7 @@ module _ {M : Type 1} (𝓤 : URA M) (H : Heap 𝓤) (A : Atoms 𝓤) (W : Given
   n = length (src .now)
 
   abbrev wholly : Out
-  wholly = wholeFile quarter (src .now) (tablesOf′ (ids .now) (list .now))
+  wholly = wholeFile opening (src .now) (tablesOf′ (ids .now) (list .now))
 
   -- how far the loop is: what is left says what the whole says
   record Far : Type 0 where
@@ -103,7 +103,7 @@ module _ {M : Type 1} (𝓤 : URA M) (H : Heap 𝓤) (A : Atoms 𝓤) (W : Given
 
   -- [κ₀'s token; κ₁'s; κ₂'s; the source; ids; the list; _22 at 6; _21 at 8; _20 at 10; _19 at 12; _18 at 14; _17 at 16; _16 at 18; _15 at 20; _14 at 22; _13 at 24; _12 at 26; _11 at 28; _10 at 30; _9 at 32; _8 at 34; _7 at 36; _6 at 38; _5 at 40; _4 at 42; _3 at 44; _2 at 46; _1 at 48; _0 at 50]
   abbrev At : Far → List (Item 𝓤)
-  At k = Having (k .xs) (k .ys) (locals En (none ∷ some (quarter-val quarter) ∷ some s₀ ∷ some s₁ ∷ some s₂ ∷ none ∷ some (state-val (k .st)) ∷ some (vint w64 (k .place)) ∷ []) [])
+  At k = Having (k .xs) (k .ys) (locals En (none ∷ some (opening-val opening) ∷ some s₀ ∷ some s₁ ∷ some s₂ ∷ none ∷ some (state-val (k .st)) ∷ some (vint w64 (k .place)) ∷ []) [])
 
   -- the end call
   closes : (k : Far) → n ≤ k .place → Sq W (At k) (runs (𝓣 .C) (𝓣 .Λ) En mirs.t-9 (atRet En Post))
@@ -168,13 +168,13 @@ module _ {M : Type 1} (𝓤 : URA M) (H : Heap 𝓤) (A : Atoms 𝓤) (W : Given
   loop : (k : Far) → Sq W (At k) (runs (𝓣 .C) (𝓣 .Λ) En mirs.t-8 (atRet En Post))
   loop k = first ! $ blocks ! $ loops ! 𝓣 (Nearer left) (nearer-wf left) At turns k
 
-  walk : Sq W (Having (ids .now) (list .now) (locals En (none ∷ some (quarter-val quarter) ∷ some s₀ ∷ some s₁ ∷ some s₂ ∷ []) [])) (runs (𝓣 .C) (𝓣 .Λ) En (code.function .body) (atRet En Post))
+  walk : Sq W (Having (ids .now) (list .now) (locals En (none ∷ some (opening-val opening) ∷ some s₀ ∷ some s₁ ∷ some s₂ ∷ []) [])) (runs (𝓣 .C) (𝓣 .Λ) En (code.function .body) (atRet En Post))
   walk =
       relends ! 44 32 30 (room₁ .0) refl refl refl refl refl refl refl refl $ relends ! 42 28 26 (room₂ .0) refl refl refl refl refl refl refl refl $
       move ! (1 ∷ 4 ∷ []) $ lends-again ! tt u32 ids (s₁ ∷ []) (λ p₁ ν₁ δ₁. move ! (4 ∷ 6 ∷ []) $ lends-again ! tt T.the-row list (s₂ ∷ []) (λ p₂ ν₂ δ₂. move ! (3 ∷ 0 ∷ 4 ∷ 1 ∷ []) $
       -- [ν₁'s token; ν₂'s; ids; the list; what the list keeps; what ids keep; κ₀'s; the source; _22 at 8; …]
-      asks ! (opens W mem run) known-open fm (((ν₁ ∷ [], (ν₂ ∷ [], tt)), (fullShare, (fullShare, tt)), tt, (quarter, (named-as ids δ₁, (named-as list δ₂, tt))), (quarter-val quarter ∷ [], (s₁ ∷ [], (s₂ ∷ [], tt)))), tt) tt
-      4 (made (LL.makes Q.the-type Q′.the-plain 𝓤 H A quarter _ quarter-is), (held, (held, tt))) refl (and-then ! (var ! 50 refl) (and-then ! (var ! 32 refl) (and-then ! (var ! 28 refl) (no-more !)))) (λ r ws said r-is.
+      asks ! (opens W mem run) known-open fm (((ν₁ ∷ [], (ν₂ ∷ [], tt)), (fullShare, (fullShare, tt)), tt, (opening, (named-as ids δ₁, (named-as list δ₂, tt))), (opening-val opening ∷ [], (s₁ ∷ [], (s₂ ∷ [], tt)))), tt) tt
+      4 (made (LL.makes O.the-type O′.the-plain 𝓤 H A opening _ opening-is), (held, (held, tt))) refl (and-then ! (var ! 50 refl) (and-then ! (var ! 32 refl) (and-then ! (var ! 28 refl) (no-more !)))) (λ r ws said r-is.
       let fields = LL.owed An.the-type An′.the-laws r _ r-is in
       receives ! 42 refl (LL.lawful An.the-type An′.the-laws 𝓤 H A W .typed r _ r-is .0) $
       move ! (0 ∷ 2 ∷ 5 ∷ []) $ comes-back ! tt u32 ids (s₁ ∷ []) δ₁ (ws .1 .0) p₁ (λ same₁ _.
@@ -192,17 +192,17 @@ module _ {M : Type 1} (𝓤 : URA M) (H : Heap 𝓤) (A : Atoms 𝓤) (W : Given
         within = omega arith;
         xs-same = same₁;
         ys-same = same₂;
-        says = ap (λ (o : Out). calls all 0 (src .now) (o .walk) (o .left)) said ∙ whole-means quarter (src .now) (tablesOf′ (ids .now) (list .now));
+        says = ap (λ (o : Out). calls all 0 (src .now) (o .walk) (o .left)) said ∙ whole-means opening (src .now) (tablesOf′ (ids .now) (list .now));
       }))))))
 
 pub whole-spec : {M : Type 1} → stated.statement M
 unfolding code.routine tablesOf
 whole-spec 𝓤 H 𝓜 𝓖 𝓡 =
     proves 𝓤 H 𝓜 𝓖 𝓡 f.ended ends (f.clauses 𝓤 H (𝓖 .A) (𝓜 .mem) (𝓡 .run)) code.env #whole code.function (code.unfolded 𝓤 H 𝓜 𝓡)
-    (λ κs. (LL.vals Q.the-type Q′.the-laws, (slice-vals, (slice-vals, (slice-vals, tt)))))
-    (λ κs. (LL.tells Q.the-type Q′.the-laws, (shr-slice-tells (named 0) (κs .0) u8, (mut-slice-tells (named 0) (κs .1 .0) u32, (mut-slice-tells (named 0) (κs .1 .1 .0) T.the-row, tt)))))
+    (λ κs. (LL.vals O.the-type O′.the-laws, (slice-vals, (slice-vals, (slice-vals, tt)))))
+    (λ κs. (LL.tells O.the-type O′.the-laws, (shr-slice-tells (named 0) (κs .0) u8, (mut-slice-tells (named 0) (κs .1 .0) u32, (mut-slice-tells (named 0) (κs .1 .1 .0) T.the-row, tt)))))
     (λ κs qs bounds a g are. let W = givenOf 𝓤 H 𝓜 𝓖 in (
-      (LL.lawful Q.the-type Q′.the-laws 𝓤 H (𝓖 .A) W .typed (a .0) _ (are .0) .0, ((tt, (tt, (record { fits = are .1 .0 .0 .1 .0 }, tt))), ((tt, (tt, (record { fits = are .1 .1 .0 .0 .1 .0 }, tt))), ((tt, (tt, (record { fits = are .1 .1 .1 .0 .0 .1 .0 }, tt))), tt)))),
+      (LL.lawful O.the-type O′.the-laws 𝓤 H (𝓖 .A) W .typed (a .0) _ (are .0) .0, ((tt, (tt, (record { fits = are .1 .0 .0 .1 .0 }, tt))), ((tt, (tt, (record { fits = are .1 .1 .0 .0 .1 .0 }, tt))), ((tt, (tt, (record { fits = are .1 .1 .1 .0 .0 .1 .0 }, tt))), tt)))),
       λ ps. lose ! 3 $ walk 𝓤 H (𝓖 .A) W (𝓜 .mem) (𝓡 .run) (tablesOf 𝓤 H 𝓜 (tables 𝓤 H 𝓜 𝓡 code.env))
           (cited 𝓤 H (Asked (opens W (𝓜 .mem) (𝓡 .run))) 𝓜 𝓡 code.env #open open-routine code.calls-walk·open (open-met.met 𝓤 H 𝓜 𝓖 𝓡))
           (cited 𝓤 H (Asked (lines-at W (𝓜 .mem) (𝓡 .run))) 𝓜 𝓡 code.env #lines-at lines-at-routine code.calls-walk·lines-at (lines-at-met.met 𝓤 H 𝓜 𝓖 𝓡))

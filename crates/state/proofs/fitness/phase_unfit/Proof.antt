@@ -1,12 +1,12 @@
 -- `state::fitness::phase_unfit` meets its contract.
 use borrow.Author.Needs.{needs}
-use Rattle.calendar.proofs.is_allowed.Reads as is-allowed-reads
+use Rattle.edits.proofs.format.may_open.Reads as may-open-reads
 use Rattle.state.proofs.fitness.phase_unfit.Statement.{statement}
 use Rattle.state.proofs.fitness.phase_unfit.Tie as tie
 use Rattle.state.proofs.fitness.quarters_unfit.Reads as quarters-unfit-reads
 
-is-allowed-requires : tie.Need-is-allowed-requires
-is-allowed-requires c κs = search needs
+may-open-requires : tie.Need-may-open-requires
+may-open-requires c κs = search needs
 
 quarters-unfit-requires : tie.Need-quarters-unfit-requires
 quarters-unfit-requires c κs = search needs
@@ -21,7 +21,7 @@ quarters-unfit-requires-4 : tie.Need-quarters-unfit-requires-4
 quarters-unfit-requires-4 c κs = search needs
 
 returns : tie.Need-returns
-returns c = rw (c .before .enum-told .given .1, ← c .is-allowed .ensures)
+returns c = rw (c .before .enum-told .given .1, ← c .may-open .ensures)
 
 returns-2 : tie.Need-returns-2
 returns-2 c = rw (c .before .enum-told2 .given .1, ← c .quarters-unfit .ensures)
@@ -39,6 +39,6 @@ pub phase-unfit-spec : {M : Type 1} → statement M
 phase-unfit-spec =
     tie.close
     (tie.spec
-    (λ c. search needs) is-allowed-requires (λ c. search needs) quarters-unfit-requires (λ c. search needs) quarters-unfit-requires-2
+    (λ c. search needs) may-open-requires (λ c. search needs) quarters-unfit-requires (λ c. search needs) quarters-unfit-requires-2
     (λ c. search needs) quarters-unfit-requires-3 (λ c. search needs) quarters-unfit-requires-4 returns returns-2 returns-3 returns-4
     returns-5)

@@ -1,0 +1,55 @@
+// The formats of wage files, and the numbers by which callers name them.
+use crate::Opening;
+use calendar::Quarter;
+ghost use mathlib.Core.Path.{_≡_};
+ghost use Rattle.edits.specs.Formats.{formatOf, numberOf, isKnown, mayOpen};
+
+// `Unknown` is no format: it is what a number says that names none.
+pub enum Format {
+    Pfml,
+    Unknown,
+}
+
+// The format that a number names.
+pub fn format_of(number: u64) -> Format
+    ensures { λ r. ⌜ r ≡ formatOf number ⌝ }
+{
+    match number {
+        0 => Format::Pfml,
+        _ => Format::Unknown,
+    }
+}
+
+// The number of a format; of none, one that names none.
+pub fn number_of(format: Format) -> u64
+    ensures { λ r. ⌜ r ≡ numberOf format ⌝ }
+{
+    match format {
+        Format::Pfml => 0,
+        Format::Unknown => 255,
+    }
+}
+
+pub fn is_known(format: Format) -> bool
+    ensures { λ r. ⌜ r ≡ isKnown format ⌝ }
+{
+    match format {
+        Format::Pfml => true,
+        Format::Unknown => false,
+    }
+}
+
+// Whether a walk may be opened so: the quarter is one that the paper allows, and the format is known.
+pub fn may_open(held: Opening) -> bool
+    ensures { λ r. ⌜ r ≡ mayOpen held ⌝ }
+{
+    let closed = Quarter {
+        year: held.year,
+        month: held.month,
+    };
+    let format = held.format;
+    if calendar::is_allowed(closed) {
+        return is_known(format);
+    }
+    false
+}
