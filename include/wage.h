@@ -22,6 +22,11 @@
 extern "C" {
 #endif
 
+/* The version of what is declared here. A program compares it with what the library says of itself before it makes any other call: the words of the state and
+ * the entries of the list change from version to version. */
+#define WAGE_ABI_VERSION 1
+uint64_t wage_abi_version(void);
+
 /* A stack of so many bytes is enough for every call, also where a thread has no more than that in all. */
 #define WAGE_STACK_BYTES 65536
 
@@ -32,12 +37,21 @@ typedef struct wage_employer {
     uint64_t cents; /* their wages */
 } wage_employer;
 
-/* Every call but wage_field_text and wage_field_first returns a number: 0 if all is well, else that of the refusal.
+/* The format of a file, by the number that it is given at opening. Another number names no format; the state of a walk that was opened with one holds
+ * WAGE_FORMAT_NONE. */
+enum {
+    WAGE_FORMAT_PFML = 0, /* the paid leave wage file, records of 290 characters */
+    WAGE_FORMAT_NONE = 255
+};
+
+/* Every call but wage_abi_version, wage_field_text and wage_field_first returns a number: 0 if all is well, else that of the refusal.
  *
  *   1 to 65   the file is refused: docs/REASONS.md has every number
  *   70        year and month are no last closed quarter
  *   71        a line or the end after acceptance; nothing changed
- *   72        the state is unfit: words that tell no walk, numbers that no walk has, or more in use than the tables lent hold; nothing changed
+ *   72        the state is unfit: words that tell no walk, a format that is none, numbers that no walk has, or more in use than the tables lent hold;
+ *             nothing changed
+ *   73        the format's number names no format
  *   80 to 83  wage_write_t, wage_write_f: below
  *   84, 85    wage_build_a, wage_build_e, wage_build_s: below
  *   87, 88    wage_frames: below */
@@ -46,6 +60,7 @@ enum {
     WAGE_BAD_QUARTER = 70,
     WAGE_WALK_ENDED = 71,
     WAGE_STATE_UNFIT = 72,
+    WAGE_UNKNOWN_FORMAT = 73,
     WAGE_NOT_TO_BE_WRITTEN = 80,
     WAGE_NONE_TO_TOTAL = 81,
     WAGE_SUM_TOO_LARGE = 82,
@@ -67,30 +82,45 @@ enum {
     WAGE_ANSWER_WORDS = 4
 };
 
-/* The state of a walk: 17 words that wage_open fills and every later call is lent. Words behind them stay.
+/* The state of a walk: 27 words that wage_open fills and every later call is lent. Words behind them stay.
  *
- * A call reads any words. Fewer than 17, a standing above 6, or a refusal of a number that is not in the list above or in docs/REASONS.md tell no
- * walk, and the call answers 72. S_FOLLOW counts as 1 unless it is 0; LINE and LINES above 4,294,967,295 and COLUMN above 65,535 count as these. A
- * call of the walk then writes the state that it leaves, all 17 words; a line or end call that answers 70, 71 or 72 writes none. */
+ * A call reads any words. Fewer than 27, a standing above 6, or a refusal of a number that is not in the list above or in docs/REASONS.md tell no
+ * walk, and the call answers 72; so it does where FORMAT names no format, unless the walk is refused with 70 or 73. S_FOLLOW and NOTED count as 1
+ * unless they are 0; LINE and LINES above 4,294,967,295 and COLUMN above 65,535 count as these. A call of the walk then writes the state that it leaves,
+ * all 27 words; a line or end call that answers 70, 71, 72 or 73 writes none.
+ *
+ * PFML uses none of the words 18 to 26: a walk over it has zeros there, and 72 compares none of them. Whatever a caller puts there: an opening and a refusal
+ * set all of them to zero; an A, E, T or F record sets the open E's to zero and leaves the file's; an S record, the end of an accepted file, and a refusal
+ * that is answered again leave all of them. */
 enum {
-    WAGE_STANDING = 0,         /* 0 before A, 1 after A, 2 E open, 3 after T, 4 after F, 5 accepted, 6 refused */
-    WAGE_REFUSAL = 1,          /* the refusal's number, line and column; 0 unless refused */
+    WAGE_STANDING = 0,           /* 0 before A, 1 after A, 2 E open, 3 after T, 4 after F, 5 accepted, 6 refused */
+    WAGE_REFUSAL = 1,            /* the refusal's number, line and column; 0 unless refused */
     WAGE_REFUSAL_LINE = 2,
     WAGE_REFUSAL_COLUMN = 3,
-    WAGE_LINES = 4,            /* lines read */
-    WAGE_HELD_YEAR = 5,        /* the last closed quarter */
+    WAGE_LINES = 4,              /* lines read */
+    WAGE_HELD_YEAR = 5,          /* the last closed quarter */
     WAGE_HELD_MONTH = 6,
-    WAGE_FILED_YEAR = 7,       /* A's quarter */
+    WAGE_FILED_YEAR = 7,         /* A's quarter */
     WAGE_FILED_MONTH = 8,
-    WAGE_OPEN_FEIN = 9,        /* the open E: its FEIN, */
-    WAGE_OPEN_S_FOLLOW = 10,   /* its flag that S records follow, */
-    WAGE_OPEN_COUNT = 11,      /* the S records under it */
-    WAGE_OPEN_CENTS = 12,      /* and their wages */
-    WAGE_FILE_COUNT = 13,      /* S records of the file, */
-    WAGE_FILE_EMPLOYERS = 14,  /* E records, */
-    WAGE_FILE_CENTS = 15,      /* and the wages of all S records */
-    WAGE_IDS_USED = 16,        /* ids of the table that are the open E's */
-    WAGE_STATE_WORDS = 17
+    WAGE_OPEN_FEIN = 9,          /* the open E: its FEIN, */
+    WAGE_OPEN_S_FOLLOW = 10,     /* its flag that S records follow, */
+    WAGE_OPEN_COUNT = 11,        /* the S records under it */
+    WAGE_OPEN_CENTS = 12,        /* and their wages */
+    WAGE_FILE_COUNT = 13,        /* S records of the file, */
+    WAGE_FILE_EMPLOYERS = 14,    /* E records, */
+    WAGE_FILE_CENTS = 15,        /* and the wages of all S records */
+    WAGE_IDS_USED = 16,          /* ids of the table that are the open E's */
+    WAGE_FORMAT = 17,            /* the format; another number than WAGE_FORMAT_PFML is none */
+    WAGE_OPEN_SECOND = 18,       /* the open E: its second sum, */
+    WAGE_OPEN_OTHERS = 19,       /* its other records, */
+    WAGE_OPEN_NEAREST = 20,      /* the nearest number, */
+    WAGE_OPEN_NOTED = 21,        /* the flag that a note was seen, */
+    WAGE_OPEN_ACCOUNT_HEAD = 22, /* and its account, in two parts */
+    WAGE_OPEN_ACCOUNT_TAIL = 23,
+    WAGE_FILE_SECOND = 24,       /* the file's second sum, */
+    WAGE_FILE_OTHERS = 25,       /* its other records, */
+    WAGE_FILE_NOTES = 26,        /* and its notes */
+    WAGE_STATE_WORDS = 27
 };
 
 /* The tables. `ids` has room for the identity numbers under one employer (a zero one takes none), `list` for the employers of the file: at most
@@ -98,11 +128,11 @@ enum {
  * what is in use (else 72); their content is the caller's to keep. A refusal from 1 to 65 zeroes every entry of both, again with each later line or
  * end call; behind acceptance `list` holds the employers in file order, then zeros, and `ids` zeros. */
 
-/* Opens a walk for the last closed quarter, year 2025 to 9999 and month 3, 6, 9 or 12: zeroes both tables and fills the state. 70 for another
- * quarter: the state then holds that refusal, and no table is touched; each later line or end call answers it again and touches nothing but the answer.
- * 72 for fewer than 17 words of state: nothing is touched but the answer. */
-uint64_t wage_open(uint64_t year, uint64_t month, uint64_t *state, size_t state_length, uint64_t *answer, size_t answer_length, uint32_t *ids,
-                   size_t ids_length, wage_employer *list, size_t list_length);
+/* Opens a walk over a file of this format for the last closed quarter, year 2025 to 9999 and month 3, 6, 9 or 12: zeroes both tables and fills the state.
+ * In this order: 72 for fewer than 27 words of state: nothing is touched but the answer; 70 for another quarter; 73 for another format. After 70 and 73 the
+ * state holds that refusal, and no table is touched; each later line or end call answers it again and touches nothing but the answer. */
+uint64_t wage_open(uint64_t format, uint64_t year, uint64_t month, uint64_t *state, size_t state_length, uint64_t *answer, size_t answer_length,
+                   uint32_t *ids, size_t ids_length, wage_employer *list, size_t list_length);
 
 /* Reads the first line of the bytes: all that remains of the file, or at least 292 bytes of it. ANSWER_BYTES says how many the line and its end take,
  * and what lies behind them is ignored. No bytes are a line of length 0. */
@@ -114,8 +144,9 @@ uint64_t wage_end(uint64_t *state, size_t state_length, uint64_t *answer, size_t
                   wage_employer *list, size_t list_length);
 
 /* A file in one piece: opening, a line call while any byte remains and none is refused, then the end call, whose answer this is. */
-uint64_t wage_whole(uint64_t year, uint64_t month, const uint8_t *bytes, size_t bytes_length, uint64_t *state, size_t state_length,
-                    uint64_t *answer, size_t answer_length, uint32_t *ids, size_t ids_length, wage_employer *list, size_t list_length);
+uint64_t wage_whole(uint64_t format, uint64_t year, uint64_t month, const uint8_t *bytes, size_t bytes_length, uint64_t *state,
+                    size_t state_length, uint64_t *answer, size_t answer_length, uint32_t *ids, size_t ids_length, wage_employer *list,
+                    size_t list_length);
 
 /* Writes the T, or the F, record that the walk accepts next into `out`, 290 bytes without a line end. In this order: 72; 83 if `out` is not 290
  * bytes; 80 if no T (no F) can stand here; 81 for a T without S records under an E that says some follow; 82 if the sum is too large for the record.

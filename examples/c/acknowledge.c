@@ -40,7 +40,8 @@ static int acknowledge(uint64_t year, uint64_t month, const uint8_t *file, size_
     static wage_employer list[MOST_EMPLOYERS];
     static uint8_t frames[WAGE_FRAMES_BYTES(MOST_EMPLOYERS)];
 
-    uint64_t refusal = wage_whole(year, month, file, length, state, WAGE_STATE_WORDS, answer, WAGE_ANSWER_WORDS, ids, MOST_IDS, list, MOST_EMPLOYERS);
+    uint64_t refusal = wage_whole(WAGE_FORMAT_PFML, year, month, file, length, state, WAGE_STATE_WORDS, answer, WAGE_ANSWER_WORDS, ids, MOST_IDS, list,
+                                  MOST_EMPLOYERS);
     if (refusal != WAGE_FINE) {
         fprintf(stderr, "refused: number %d, line %d, column %d\n", (int)refusal, (int)answer[WAGE_ANSWER_LINE], (int)answer[WAGE_ANSWER_COLUMN]);
     }
@@ -55,6 +56,10 @@ static int acknowledge(uint64_t year, uint64_t month, const uint8_t *file, size_
 
 int main(int count, char **words)
 {
+    if (wage_abi_version() != WAGE_ABI_VERSION) {
+        fprintf(stderr, "acknowledge: the library is of another version than wage.h\n");
+        return 2;
+    }
     size_t length;
     uint8_t *file = count == 3 ? read_file(words[2], &length) : NULL;
     if (file == NULL) {

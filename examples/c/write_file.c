@@ -3,7 +3,7 @@
  *     write_file > FILE
  *
  * Each record is lent to the walk before it is written out, so that what comes out is a whole file that is accepted under the last closed quarter 202606.
- * The exit status is 0, or 1 where a record is refused or cannot be written. */
+ * The exit status is 0, or 1 where the library is of another version or a record is refused or cannot be written. */
 #include <stdint.h>
 #include <stdio.h>
 #include <stdlib.h>
@@ -139,7 +139,11 @@ static void write_final(void)
 
 int main(void)
 {
-    if (wage_open(YEAR, MONTH, state, WAGE_STATE_WORDS, answer, WAGE_ANSWER_WORDS, ids, MOST_IDS, list, MOST_EMPLOYERS) != WAGE_FINE) {
+    if (wage_abi_version() != WAGE_ABI_VERSION) {
+        fprintf(stderr, "write_file: the library is of another version than wage.h\n");
+        return 1;
+    }
+    if (wage_open(WAGE_FORMAT_PFML, YEAR, MONTH, state, WAGE_STATE_WORDS, answer, WAGE_ANSWER_WORDS, ids, MOST_IDS, list, MOST_EMPLOYERS) != WAGE_FINE) {
         refuse("the quarter");
     }
     write_transmitter();

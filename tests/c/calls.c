@@ -3,7 +3,7 @@
 // The state's words, an id table of 40 numbers and an employer list of 12 entries are kept from command to command. A command ends with #. Its first
 // character names it, digits in fixed columns follow, and then, where a call is lent bytes, a stroke and these:
 //
-//     O  opening: year 2-6, month 7-8, ids lent 9-10, entries lent 11-12
+//     O  opening: the format's number 2-21, year 22-26, month 27-28, ids lent 29-30, entries lent 31-32
 //     L  a line: ids lent 2-3, entries lent 4-5; bytes
 //     E  the end: ids lent 2-3, entries lent 4-5
 //     W  a whole file: as O; bytes
@@ -14,10 +14,10 @@
 //     G  a field read: the record's letter 2, the field's number 3-22; the line, as bytes
 //     X  a line, lent a list of 65,540 entries, each 7, 8, 9: the state has 65,535 employers, or one or two more, by the digit in 2; bytes. What it
 //        leaves is not kept
-//     S  another state: the words 0 to 3 as `set_standing` reads them, the others from 20 on, as wide as `set_state` says
+//     S  another state of PFML: the words 0 to 3 as `set_standing` reads them, those up to 16 from 20 on, as wide as `set_state` says, zeros behind them
 //     N  another number in one word of the state: its place 2-3, the number 4-23
 //     T  another id and another entry: the id's place 2-3, the id 4-13; the entry's place 14-15, its FEIN 16-25, count 26-35 and cents 36-54
-//     K  what the calls to come are lent: so many words of state 2-3, at most 20, and of the answer 4, at most 6. At first it is 17 and 4
+//     K  what the calls to come are lent: so many words of state 2-3, at most 30, and of the answer 4, at most 6. At first it is 27 and 4
 //
 // The first four calls and X print a line: number, line, column and bytes; the state; the ids; the entries. Zeros at the end of a table are left
 // out. X prints no ids, and the entries from 65,534 on. R and B print number, line and column, and the slice; F all four, and the buffer, LF as a slash;
@@ -35,7 +35,7 @@
 
 #include "on_stack.h"
 
-enum { IDS = 40, ENTRIES = 12, LONG_LIST = 65540, LONG_LIST_TOLD_FROM = 65534, MOST_WORDS = 20, MOST_ANSWER = 6, MOST_SLICE = 300, MOST_BUFFER = 500, MOST_VALUES = 40 };
+enum { IDS = 40, ENTRIES = 12, LONG_LIST = 65540, LONG_LIST_TOLD_FROM = 65534, MOST_WORDS = 30, MOST_ANSWER = 6, MOST_SLICE = 300, MOST_BUFFER = 500, MOST_VALUES = 40 };
 
 _Static_assert(sizeof(wage_employer) == 24 && offsetof(wage_employer, count) == 8 && offsetof(wage_employer, cents) == 16, "as wage.h says");
 
@@ -275,19 +275,19 @@ static void take_state(uint64_t *words)
 
 static uint64_t call(struct text s, uint64_t *st, uint64_t *an, struct tables t)
 {
-    uint64_t year = number_in(s, 2, 6), month = number_in(s, 7, 8);
-    struct text given = behind(s, s.at[0] == 'L' ? 6 : s.at[0] == 'X' ? 3 : 13);
+    uint64_t format = number_in(s, 2, 21), year = number_in(s, 22, 26), month = number_in(s, 27, 28);
+    struct text given = behind(s, s.at[0] == 'L' ? 6 : s.at[0] == 'X' ? 3 : 33);
     const uint8_t *bytes = lend(BYTES, given.at, given.length);
     uint64_t number;
     switch (s.at[0]) {
     case 'O':
-        number = wage_open(year, month, st, words_lent, an, answer_lent, t.ids, t.ids_length, t.list, t.list_length);
+        number = wage_open(format, year, month, st, words_lent, an, answer_lent, t.ids, t.ids_length, t.list, t.list_length);
         break;
     case 'E':
         number = wage_end(st, words_lent, an, answer_lent, t.ids, t.ids_length, t.list, t.list_length);
         break;
     case 'W':
-        number = wage_whole(year, month, bytes, given.length, st, words_lent, an, answer_lent, t.ids, t.ids_length, t.list, t.list_length);
+        number = wage_whole(format, year, month, bytes, given.length, st, words_lent, an, answer_lent, t.ids, t.ids_length, t.list, t.list_length);
         break;
     default:
         number = wage_line(st, words_lent, bytes, given.length, an, answer_lent, t.ids, t.ids_length, t.list, t.list_length);
@@ -413,11 +413,11 @@ static void frames_written(struct text s)
 
 // ---- what is kept, altered
 
-// A few reasons can stand in a refused state: of a line, of a field, of a full table, of a bad quarter; and four that no refusal leaves there. Another
-// number is read as the last.
+// A few reasons can stand in a refused state: of a line, of a field, of a full table, of a bad quarter, of an unknown format; and four that no refusal leaves
+// there. Another number is read as the last.
 static uint64_t reason(uint64_t number)
 {
-    static const uint64_t known[] = {1, 44, 63, 64, 65, 70, 71, 72, 80, 83};
+    static const uint64_t known[] = {1, 44, 63, 64, 65, 70, 71, 72, 73, 80, 83};
     for (size_t i = 0; i < sizeof known / sizeof *known; i++) {
         if (known[i] == number) {
             return number;
@@ -442,6 +442,9 @@ static void set_state(struct text s)
     // of the words from the lines read on, from column 20 on
     static const size_t widths[] = {10, 5, 2, 5, 2, 10, 1, 10, 19, 10, 10, 19, 10};
     size_t column = 20;
+    for (size_t i = WAGE_FORMAT; i < WAGE_STATE_WORDS; i++) {
+        state[i] = 0;
+    }
     set_standing(s);
     for (size_t i = 0; i < sizeof widths / sizeof *widths; i++) {
         state[WAGE_LINES + i] = number_in(s, column, column + widths[i] - 1);
@@ -483,7 +486,7 @@ static void command(struct text s)
     switch (s.length > 0 ? s.at[0] : 0) {
     case 'O':
     case 'W':
-        kept_call(s, tables_in(s, 9));
+        kept_call(s, tables_in(s, 29));
         break;
     case 'L':
     case 'E':
@@ -557,6 +560,9 @@ static void *run_script(void *none)
 
 int main(void)
 {
+    if (wage_abi_version() != WAGE_ABI_VERSION) {
+        stop("the library is of another version than wage.h");
+    }
     script = read_all();
     make_areas();
     for (size_t i = WAGE_STATE_WORDS; i < MOST_WORDS; i++) {

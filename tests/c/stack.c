@@ -41,9 +41,15 @@ static uint64_t values[WAGE_E_FIELDS];
 static uint8_t texts[300];
 static size_t texts_length;
 
+static void *call_abi_version(void *none)
+{
+    expect("wage_abi_version", wage_abi_version(), WAGE_ABI_VERSION);
+    return none;
+}
+
 static void *call_open(void *none)
 {
-    expect("wage_open", wage_open(2026, 6, state, WAGE_STATE_WORDS, answer, WAGE_ANSWER_WORDS, ids, EMPLOYEES, list, 2), WAGE_FINE);
+    expect("wage_open", wage_open(WAGE_FORMAT_PFML, 2026, 6, state, WAGE_STATE_WORDS, answer, WAGE_ANSWER_WORDS, ids, EMPLOYEES, list, 2), WAGE_FINE);
     return none;
 }
 
@@ -63,7 +69,7 @@ static void *call_end(void *none)
 
 static void *call_whole(void *none)
 {
-    expect("wage_whole", wage_whole(2026, 6, file, length, state, WAGE_STATE_WORDS, answer, WAGE_ANSWER_WORDS, ids, EMPLOYEES, list, 2), WAGE_FINE);
+    expect("wage_whole", wage_whole(WAGE_FORMAT_PFML, 2026, 6, file, length, state, WAGE_STATE_WORDS, answer, WAGE_ANSWER_WORDS, ids, EMPLOYEES, list, 2), WAGE_FINE);
     return none;
 }
 
@@ -221,7 +227,7 @@ static int measure(const char *name, void *(*function)(void *))
 // Makes the file record by record, and measures each call where it can be made.
 static int measure_all(void)
 {
-    int within = measure("wage_open", call_open);
+    int within = measure("wage_abi_version", call_abi_version) & measure("wage_open", call_open);
     transmitter();
     within &= measure("wage_build_a", call_build_a);
     hand_on();
@@ -248,6 +254,7 @@ static int measure_all(void)
 // The calls one after the other, on one thread.
 static void *call_all(void *none)
 {
+    call_abi_version(NULL);
     call_whole(NULL);
     call_frames(NULL);
     call_open(NULL);
