@@ -3,19 +3,20 @@
 Written from document 01, include/wage.h and docs/DECISIONS.md; it shares nothing with the product.
 """
 import walk_reference as walk
-from walk_reference import ACCEPTED, AFTER_T, E_OPEN, REFUSED, Reply, State
+from walk_reference import ACCEPTED, AFTER_T, E_OPEN, NO_FORMAT, PFML, REFUSED, Reply, State
 
-WORDS = 17
+WORDS = 27
 EMPLOYERS = 14
-# the numbers of refusals in the papers, 84 and 85 those of document 02
-LISTED = {*range(1, 9), *range(10, 21), *range(30, 66), *range(70, 73), *range(80, 86)}
+FORMAT = 17
+# the numbers of refusals in the papers, 73, 84 and 85 those of document 02
+LISTED = {*range(1, 9), *range(10, 21), *range(30, 66), *range(70, 74), *range(80, 86)}
 MOST_LINE, MOST_COLUMN = 2**32 - 1, 2**16 - 1
 UNFIT = State(stage=REFUSED, number=72)
 
 
 def words_of(st):
     return [st.stage, st.number, st.line, st.column, st.lines, *st.held, *st.filed, st.fein, st.follow, st.count, st.sum, st.all_count, st.employers,
-            st.all_sum, st.used]
+            st.all_sum, st.used, st.format, st.second, st.others, st.nearest, st.noted, *st.account, st.all_second, st.all_others, st.notes]
 
 
 def state_in(words):
@@ -26,7 +27,8 @@ def state_in(words):
     return State(
         stage=words[0], number=number, line=line, column=column, lines=min(words[4], MOST_LINE), held=(words[5], words[6]), filed=(words[7], words[8]),
         fein=words[9], follow=1 if words[10] else 0, count=words[11], sum=words[12], all_count=words[13], employers=words[14], all_sum=words[15],
-        used=words[16])
+        used=words[16], format=PFML if words[FORMAT] == PFML else NO_FORMAT, second=words[18], others=words[19], nearest=words[20],
+        noted=1 if words[21] else 0, account=(words[22], words[23]), all_second=words[24], all_others=words[25], notes=words[26])
 
 
 class Everything:

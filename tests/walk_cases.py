@@ -15,23 +15,25 @@ import sys
 import export_reference as exports
 import record_cases as records
 import walk_reference as walk
-from walk_reference import ACCEPTED, AFTER_A, AFTER_F, AFTER_T, BEFORE_A, E_OPEN, MOST_WAGES, NO_ENTRY, REFUSED, Reply, State
+from walk_reference import ACCEPTED, AFTER_A, AFTER_F, AFTER_T, BEFORE_A, E_OPEN, MOST_WAGES, NO_ENTRY, NO_FORMAT, PFML, REFUSED, Reply, State
 
 # the script's length
-ROOM = 150000
+ROOM = 200000
 IDS, ENTRIES = 40, 12
 LONG = 65540
 # what is told for a word of the answer that is not lent
 UNTOLD = 999
+# a line or end call that answers one of these leaves every word of the state as it was
+STILL = (70, 71, 72, 73)
 # the numbers that S can put into a refused state; another is read as the last
-NUMBERS = (1, 44, 63, 64, 65, 70, 71, 72, 80, 83)
+NUMBERS = (1, 44, 63, 64, 65, 70, 71, 72, 73, 80, 83)
 # the digit columns of each command, by their widths, in order from the second character on
 STATE = (("stage", 1), ("number", 2), ("line", 10), ("column", 5), ("lines", 10), ("held_year", 5), ("held_month", 2), ("filed_year", 5),
          ("filed_month", 2), ("fein", 10), ("follow", 1), ("count", 10), ("sum", 19), ("all_count", 10), ("employers", 10), ("all_sum", 19), ("used", 10))
-QUARTER_LENT = (("year", 5), ("month", 2), ("ids", 2), ("entries", 2))
 LENT = (("ids", 2), ("entries", 2))
+OPENING = (("format", 20), ("year", 5), ("month", 2), *LENT)
 COMMANDS = {
-    "O": QUARTER_LENT, "L": LENT, "E": LENT, "W": QUARTER_LENT, "S": STATE, "X": (("more", 1),),
+    "O": OPENING, "L": LENT, "E": LENT, "W": OPENING, "S": STATE, "X": (("more", 1),),
     "T": (("at", 2), ("id", 10), ("place", 2), ("fein", 10), ("count", 10), ("cents", 19)), "N": (("at", 2), ("number", 20)),
     "K": (("words", 2), ("answer", 1)), "F": (("entries", 2), ("length", 3)), "RT": (("length", 3),), "RF": (("length", 3),),
 }
@@ -93,12 +95,12 @@ class Program:
     def told(self, reply, words):
         return self.answered(reply) + "|" + told_numbers(words)
 
-    def called(self, words, call, still=(70, 71, 72)):
-        """The reply of a call over these words, and the words that it leaves: after a line or end call that answers 70, 71 or 72, all as they were."""
+    def called(self, words, call, still=STILL):
+        """The reply of a call over these words, and the words that it leaves."""
         st, reply = call(exports.state_in(words[:self.words_lent]))
         return reply, words if reply.number in still else exports.words_of(st)
 
-    def lend(self, given, call, still=(70, 71, 72)):
+    def lend(self, given, call, still=STILL):
         n, m = min(given["ids"], IDS), min(given["entries"], ENTRIES)
         ids, entries = self.ids[:n], self.entries[:m]
         reply, self.words = self.called(self.words, lambda st: call(st, ids, entries), still)
@@ -106,10 +108,10 @@ class Program:
         return self.told(reply, self.words) + told_ids(self.ids) + told_entries(self.entries) + "\n"
 
     def opening(self, given, call):
-        """A call that needs room for a state: else 72, and nothing is touched. It writes the state that it leaves, that of 70 too."""
+        """A call that needs room for a state: else 72, and nothing is touched. It writes the state that it leaves, that of 70 and 73 too."""
         if self.words_lent < exports.WORDS:
             return self.lend(given, lambda st, ids, entries: (st, Reply(72)))
-        return self.lend(given, lambda st, ids, entries: call((given["year"], given["month"]), ids, entries), still=())
+        return self.lend(given, lambda st, ids, entries: call(given["format"], (given["year"], given["month"]), ids, entries), still=())
 
     def alter(self, g):
         if g["at"] < IDS:
@@ -137,7 +139,7 @@ class Program:
         if letter == "O":
             return self.opening(g, walk.open_walk)
         if letter == "W":
-            return self.opening(g, lambda held, ids, entries: walk.whole_call(held, data, ids, entries))
+            return self.opening(g, lambda named, held, ids, entries: walk.whole_call(named, held, data, ids, entries))
         if letter == "L":
             return self.lend(g, lambda st, ids, entries: walk.line_call(st, data, ids, entries))
         if letter == "E":
@@ -191,8 +193,8 @@ class Script:
         self.given.append(command + "#")
         self.program.run(command)
 
-    def open(self, held):
-        self.add("O", year=held[0], month=held[1], ids=self.lent[0], entries=self.lent[1])
+    def open(self, held, named=PFML):
+        self.add("O", format=named, year=held[0], month=held[1], ids=self.lent[0], entries=self.lent[1])
 
     def line(self, data):
         self.add("L", data, ids=self.lent[0], entries=self.lent[1])
@@ -204,8 +206,8 @@ class Script:
     def end(self):
         self.add("E", ids=self.lent[0], entries=self.lent[1])
 
-    def whole(self, held, data):
-        self.add("W", data, year=held[0], month=held[1], ids=self.lent[0], entries=self.lent[1])
+    def whole(self, held, data, named=PFML):
+        self.add("W", data, format=named, year=held[0], month=held[1], ids=self.lent[0], entries=self.lent[1])
 
     def beyond(self, more, data):
         self.add("X", data, more=more)
@@ -226,8 +228,12 @@ class Script:
         self.add("F", entries=entries, length=length)
 
     def state(self, st):
+        """By S, which leaves zeros from the format on, and what is not zero of these words one by one."""
         names = dict(st._asdict(), held_year=st.held[0], held_month=st.held[1], filed_year=st.filed[0], filed_month=st.filed[1])
         self.add("S", **{name: names[name] for name, _ in STATE})
+        for at, number in list(enumerate(exports.words_of(st)))[exports.FORMAT:]:
+            if number:
+                self.word(at, number)
 
 
 # Records that break nothing.
@@ -600,7 +606,7 @@ MOST = 2**64 - 1
 def no_walks(w):
     """Words that tell no walk: a standing above 6, numbers that are not listed. Every call answers 72, and every word stays."""
     w.lent = (2, 3)
-    for stage, at, numbers in ((E_OPEN, 0, (7, 256, 2**32, 2**32 + 2, MOST)), (REFUSED, 1, (0, 9, 21, 29, 66, 73, 84, 87, 88, 300, 2**32 + 44, MOST))):
+    for stage, at, numbers in ((E_OPEN, 0, (7, 256, 2**32, 2**32 + 2, MOST)), (REFUSED, 1, (0, 9, 21, 29, 66, 74, 84, 87, 88, 300, 2**32 + 44, 2**32 + 73, MOST))):
         for number in numbers:
             content(w)
             w.state(standing(stage))
@@ -634,7 +640,7 @@ def odd_words(w):
 
 
 def seventy_again(w):
-    """Words that a call reads as others, in a walk refused with 70: a line or end call touches none of them, an opening writes all."""
+    """Words that a call reads as others, in a walk refused with 70: a line or end call touches none of them, an opening writes all. Likewise with 73."""
     w.lent = (2, 3)
     for at, number in ((2, 2**32), (2, MOST), (3, 65536), (10, 2), (10, MOST)):
         content(w)
@@ -644,13 +650,141 @@ def seventy_again(w):
         w.end()
         w.line("")
         w.open((2026, 5))
+    for at, number in ((2, 2**32), (3, MOST), (10, 2), (17, 9), (21, 2), (26, MOST)):
+        content(w)
+        w.state(standing(REFUSED, number=73))
+        w.word(at, number)
+        w.line("A\n")
+        w.end()
+        w.open(HELD, 2)
+
+
+# numbers that name no format
+OTHERS = (1, 9, NO_FORMAT, 256, 2**32, MOST)
+
+
+def formats(w):
+    """Openings with a number that names no format, under a quarter that may be held and under one that may not; and the calls behind them."""
+    w.lent = (2, 2)
+    for named in OTHERS:
+        for held in (HELD, (2025, 9), (2026, 5)):
+            content(w)
+            w.open(held, named)
+            w.line("A\n")
+            w.end()
+            w.frames(0, 17)
+            w.whole(held, "A\n", named)
+            w.whole(held, "", named)
+    for held in (HELD, (2026, 5)):
+        w.open(held, 9)
+        w.lines(a_record())
+        w.line("")
+        w.end()
+        for letter in "TF":
+            w.record(letter)
+            w.record(letter, 289)
+        w.frames(2, 16)
+        w.lent = (0, 0)
+        w.end()
+        w.lent = (2, 2)
+    for words in (0, 17, 26, 27, 28):
+        w.lending(words, 4)
+        w.open(HELD, 9)
+        w.open((2026, 5), 9)
+        w.whole(HELD, "", 9)
+    w.lending()
+    w.open(HELD)
+    w.lines(a_record())
+    w.open(HELD, 1)
+    w.open(HELD)
+    w.end()
+
+
+def formats_kept(w):
+    """A state whose format is none, in each standing: 72, and every word stays; but a walk refused with 70 or 73 is answered again."""
+    w.lent = (2, 3)
+    takes = {BEFORE_A: a_record(), AFTER_A: e_record(5), E_OPEN: s_record(222222222, 1), AFTER_T: f_record(2, 1, 300)}
+    walks = [standing(stage) for stage in range(REFUSED)] + [standing(REFUSED, number=number, line=0, column=0) for number in (44, 70, 71, 72, 73)]
+    for st in walks:
+        for named in OTHERS if st.stage in (E_OPEN, REFUSED) else (9,):
+            content(w)
+            w.state(st)
+            w.word(exports.FORMAT, named)
+            w.line("")
+            w.end()
+            w.frames(3, 70)
+            w.record("F" if st.stage == AFTER_T else "T")
+        if st.stage in takes:
+            w.lines(takes[st.stage])
+        w.beyond(0, "")
+    for number in (70, 73):
+        content(w)
+        w.state(standing(REFUSED, number=number))
+        w.lines(a_record())
+        w.end()
+        w.frames(3, 17)
+    # what is not of the format comes with it: 72 all the same
+    w.state(standing(REFUSED, number=73, employers=4))
+    w.end()
+    w.state(standing(REFUSED, number=73, all_count=100001))
+    w.end()
+
+
+# a number for each of the words that PFML does not use
+UNUSED = dict(second=18, others=19, nearest=20, noted=1, account=(22, 23), all_second=24, all_others=25, notes=26)
+MOST_OF_UNUSED = dict(second=MOST, others=MOST, nearest=MOST, noted=1, account=(MOST, MOST), all_second=MOST, all_others=MOST, notes=MOST)
+
+
+def unused(w):
+    """Words that PFML does not use, and that are not zero: what each record that passes leaves of them, a refusal, the end, an opening; 72 compares none."""
+    w.lent = (2, 3)
+    for values in (UNUSED, MOST_OF_UNUSED):
+        for stage, text in ((BEFORE_A, a_record()), (AFTER_A, e_record(5)), (AFTER_T, e_record(5, 0)), (E_OPEN, s_record(222222222, 1)), (E_OPEN, s_record(0, 0)),
+                            (E_OPEN, t_record(1, 100)), (AFTER_T, f_record(2, 1, 300))):
+            content(w)
+            w.state(standing(stage, **values))
+            w.lines(text)
+        for stage in range(REFUSED + 1):
+            content(w)
+            w.state(standing(stage, **values))
+            w.record("F" if stage == AFTER_T else "T")
+            w.frames(3, 70)
+            w.line("")
+            w.end()
+            w.state(standing(stage, **values))
+            w.end()
+        for number in (70, 73):
+            w.state(standing(REFUSED, number=number, **values))
+            w.line("")
+            w.end()
+        for held, named in ((HELD, PFML), ((2026, 5), PFML), (HELD, 9)):
+            w.state(standing(E_OPEN, **values))
+            w.open(held, named)
+    # a walk by calls, with one of the words altered before an S record
+    for at in range(18, exports.WORDS):
+        w.state(standing(E_OPEN))
+        w.word(at, 7)
+        w.lines(s_record(0, 1))
+    w.lines(t_record(2, 101), f_record(3, 1, 301))
+    w.end()
+    for flag in (0, 1, 2, 256, 2**32, MOST):
+        w.state(standing(E_OPEN))
+        w.word(21, flag)
+        w.lines(s_record(0, 1))
+        w.state(standing(AFTER_F))
+        w.word(21, flag)
+        w.end()
+        w.end()
+        w.state(standing(REFUSED))
+        w.word(21, flag)
+        w.end()
 
 
 def lent_short(w):
-    """Fewer words of state than 17, and more; fewer words of the answer, and more; for every call."""
+    """Fewer words of state than 27, and more; fewer words of the answer, and more; for every call."""
     w.lent = (2, 2)
     good = joined(a_record(), e_record(5), s_record(111111111, 7, 5), t_record(1, 7, 5), f_record(1, 1, 7))
-    for words, answer in ((0, 0), (1, 1), (5, 2), (16, 3), (16, 4), (17, 0), (17, 1), (17, 2), (17, 3), (18, 4), (20, 6)):
+    for words, answer in ((0, 0), (1, 1), (5, 2), (17, 3), (26, 3), (26, 4), (27, 0), (27, 1), (27, 2), (27, 3), (28, 4), (30, 6)):
         w.lending(words, answer)
         content(w)
         w.state(standing(E_OPEN))
@@ -702,7 +836,7 @@ def written(w):
 
 
 HAND = (accepted, in_one_slice, line_ends, afterwards, ends, bounds, no_bounds, room, nine_zeros, closing, totals, at_the_bounds, altered, other_lengths, beyond, no_walks,
-        odd_words, lent_short, frames, written, seventy_again)
+        odd_words, lent_short, frames, written, seventy_again, formats, formats_kept, unused)
 
 
 # Calls by chance.
@@ -771,7 +905,7 @@ def chance_lent(pick):
 
 def chance_walk(w, pick):
     w.lent = pick.choice(((3, 2), (3, 2), (3, 2), chance_lent(pick)))
-    w.open(pick.choice((HELD, HELD, chance_quarter(pick))))
+    w.open(pick.choice((HELD, HELD, chance_quarter(pick))), pick.choice((PFML,) * 30 + OTHERS))
     for _ in range(pick.randrange(3, 14)):
         st = w.program.st
         way = pick.random()
@@ -817,7 +951,7 @@ GOOD = (0, 0, 0, 0)
 def tried(data, ids=2, entries=2):
     """What a file in one slice leaves of tables with content: the reply, the stage and both tables."""
     ids, entries = [9] * ids, [(9, 9, 9)] * entries
-    st, reply = walk.whole_call(HELD, data, ids, entries)
+    st, reply = walk.whole_call(PFML, HELD, data, ids, entries)
     return tuple(reply), st.stage, ids, entries
 
 
@@ -831,15 +965,15 @@ def replies(*files):
 
 def tables_behind(*texts):
     ids, entries = [9] * 3, [(9, 9, 9)] * 2
-    st, _ = walk.open_walk(HELD, ids, entries)
+    st, _ = walk.open_walk(PFML, HELD, ids, entries)
     for text in texts:
         st, _ = walk.line_call(st, text + "\n", ids, entries)
     return ids, entries
 
 
-def bad_quarter():
+def refused_at_opening(named, held):
     ids, entries = [9], [(9, 9, 9)]
-    st, first = walk.open_walk((2026, 7), ids, entries)
+    st, first = walk.open_walk(named, held, ids, entries)
     st, second = walk.line_call(st, "", ids, entries)
     st, third = walk.end_call(st, ids, entries)
     return [tuple(reply) for reply in (first, second, third)], st, ids, entries
@@ -902,7 +1036,9 @@ def rules_by_hand():
         ("the file ends early", replies((A,), (A, E), EXAMPLE[:4], EXAMPLE[:5]), [(6, 2, 1, 0), (7, 3, 1, 0), (7, 5, 1, 0), (8, 6, 1, 0)]),
         ("tables under an E", tables_behind(A, E, s_record(8, 1), s_record(0, 1), s_record(7, 1)), ([8, 7, 0], [(FEIN, 0, 0), NO_ENTRY])),
         ("tables behind a T", tables_behind(A, E, s_record(8, 1), t_record(1, 1)), ([0, 0, 0], [(FEIN, 1, 1), NO_ENTRY])),
-        ("a bad quarter, a line and the end", bad_quarter(), ([(70, 0, 0, 0)] * 3, State(stage=REFUSED, number=70), [9], [(9, 9, 9)])),
+        ("a bad quarter, a line and the end", refused_at_opening(PFML, (2026, 7)), ([(70, 0, 0, 0)] * 3, State(stage=REFUSED, number=70), [9], [(9, 9, 9)])),
+        ("no format, a line and the end", refused_at_opening(9, (2025, 9)), ([(73, 0, 0, 0)] * 3, State(stage=REFUSED, number=73, format=NO_FORMAT), [9], [(9, 9, 9)])),
+        ("no format, and a bad quarter", refused_at_opening(9, (2025, 5)), ([(70, 0, 0, 0)] * 3, State(stage=REFUSED, number=70, format=NO_FORMAT), [9], [(9, 9, 9)])),
     )
 
 
@@ -913,27 +1049,44 @@ def called(words, *commands):
     return [program.run(command) for command in commands]
 
 
+def opening(named, year, month):
+    return "O%020d%05d%02d0101" % (named, year, month)
+
+
 def exports_by_hand():
-    """The same for what only the exports have: words, frames, and what is lent short."""
+    """The same for what only the exports have: words, formats, frames, and what is lent short."""
     opened = exports.words_of(State(held=HELD))
-    refused_52 = [6, 52, 3, 2] + [0] * 13
-    accepted_state = [5, 0, 0, 0, 6, *HELD, *QUARTER, 0, 0, 0, 0, 2, 1, 123500, 0]
-    told_52 = "52 3 2 0 |6 52 3 2 0 0 0 0 0 0 0 0 0 0 0 0 0 ||\n"
-    odd_70 = [6, 70, 2**32 + 3, 65537] + [0] * 6 + [2] + [0] * 6
-    told_70 = "70 4294967295 65535 0 |6 70 4294967299 65537 0 0 0 0 0 0 2 0 0 0 0 0 0 ||\n"
+    zeros, told_zeros = [0] * 10, "0 " * 10
+    refused_52 = [6, 52, 3, 2] + [0] * 23
+    accepted_state = [5, 0, 0, 0, 6, *HELD, *QUARTER, 0, 0, 0, 0, 2, 1, 123500, 0] + zeros
+    told_52 = "52 3 2 0 |6 52 3 2 " + "0 " * 23 + "||\n"
+    odd_70 = [6, 70, 2**32 + 3, 65537] + [0] * 6 + [2] + [0] * 6 + zeros
+    told_70 = "70 4294967295 65535 0 |6 70 4294967299 65537 0 0 0 0 0 0 2 0 0 0 0 0 0 " + told_zeros + "||\n"
+    none_73 = [6, 73, 0, 0] + [0] * 13 + [255] + [0] * 9
+    told_73 = "73 0 0 0 |6 73 " + "0 " * 15 + "255 " + "0 " * 9 + "||\n"
+    none_70 = "70 0 0 0 |6 70 " + "0 " * 15 + "255 " + "0 " * 9 + "||\n"
     entry = "T400000000000" + "00" + "0012345678" + "0000000002" + "0000000000000123500"
     large = "T400000000000" + "00" + "%010d" % (2**32 + 12345678) + "%010d" % (2**32 + 2) + "0000000000000123500"
     frames = "0100BC614E00000002000000000001E26C/000000000200000001000000000001E26C/"
     return (
-        ("words of a state that was opened", opened, [0, 0, 0, 0, 0, 2026, 6] + [0] * 10),
+        ("words of a state that was opened", opened, [0, 0, 0, 0, 0, 2026, 6] + [0] * 20),
         ("the words tell it again", exports.state_in(opened), State(held=HELD)),
-        ("a standing of 7, words lent short", called([7] + opened[1:], "E0101", "K160", "F01070", "O02026060101"),
-         ["72 0 0 0 |7 0 0 0 0 2026 6 0 0 0 0 0 0 0 0 0 0 ||\n", "", "72 999 999 999 |" + "." * 70 + "\n",
-          "72 999 999 999 |7 0 0 0 0 2026 6 0 0 0 0 0 0 0 0 0 0 ||\n"]),
-        ("a number that is not listed", called([6, 9, 3, 2] + [0] * 13, "E0101"), ["72 0 0 0 |6 9 3 2 0 0 0 0 0 0 0 0 0 0 0 0 0 ||\n"]),
-        ("a line that is too large", called([6, 52, 2**32 + 3, 2] + [0] * 13, "E0101")[0][:21], "52 4294967295 2 0 |6 "),
-        ("70 again touches no word, an opening writes all", called(odd_70, "L0101|A", "E0101", "O02026050101"),
-         [told_70, told_70, "70 0 0 0 |6 70 0 0 0 0 0 0 0 0 0 0 0 0 0 0 0 ||\n"]),
+        ("a standing of 7, words lent short", called([7] + opened[1:], "E0101", "K260", "F01070", opening(0, 2026, 6)),
+         ["72 0 0 0 |7 0 0 0 0 2026 6 0 0 0 0 0 0 0 0 0 0 " + told_zeros + "||\n", "", "72 999 999 999 |" + "." * 70 + "\n",
+          "72 999 999 999 |7 0 0 0 0 2026 6 0 0 0 0 0 0 0 0 0 0 " + told_zeros + "||\n"]),
+        ("a number that is not listed", called([6, 9, 3, 2] + [0] * 23, "E0101"), ["72 0 0 0 |6 9 3 2 " + "0 " * 23 + "||\n"]),
+        ("a line that is too large", called([6, 52, 2**32 + 3, 2] + [0] * 23, "E0101")[0][:21], "52 4294967295 2 0 |6 "),
+        ("70 again touches no word, an opening writes all", called(odd_70, "L0101|A", "E0101", opening(0, 2026, 5)),
+         [told_70, told_70, "70 0 0 0 |6 70 " + "0 " * 25 + "||\n"]),
+        ("73, a line, the end, its frame, and what is written", called(opened, opening(9, 2025, 9), "L0101|A", "E0101", "F00017", "RT003"),
+         [told_73] * 3 + ["0 0 0 17 |FF49000000000000/\n", "83 0 0 |...\n"]),
+        ("72, 70 and 73 in their order", called(opened, "K264", opening(9, 2025, 5), "K274", opening(9, 2025, 5), opening(2**64 - 1, 2025, 9), opening(1, 2025, 9)),
+         ["", "72 0 0 0 |0 0 0 0 0 2026 6 " + "0 " * 20 + "||\n", "", none_70, told_73, told_73]),
+        ("a format that is none", called(opened[:17] + [9] + opened[18:], "E0101"), ["72 0 0 0 |0 0 0 0 0 2026 6 " + "0 " * 10 + "9 " + "0 " * 9 + "||\n"]),
+        ("refused with 73, whatever the format", called(none_73[:17] + [0] + none_73[18:], "E0101"), ["73 0 0 0 |6 73 " + "0 " * 25 + "||\n"]),
+        ("words that PFML does not use, at the end", called([4, *accepted_state[1:18], 1, 2, 3, 4, 5, 6, 7, 8, 9], entry, "E0101"),
+         ["", "0 0 0 0 |5 0 0 0 6 2026 6 2026 3 0 0 0 0 2 1 123500 0 0 1 2 3 1 5 6 7 8 9 ||12345678:2:123500\n"]),
+        ("and at a refusal", called([3, *accepted_state[1:18], 1, 2, 3, 4, 5, 6, 7, 8, 9], "E0101"), ["8 7 1 0 |6 8 7 1 " + "0 " * 23 + "||\n"]),
         ("the paper's second frame", called(refused_52, "E0000", "F00017", "F00016"),
          [told_52, "0 0 0 17 |FF34000000030002/\n", "88 0 0 0 |" + "." * 16 + "\n"]),
         ("the paper's first frames", called(accepted_state, entry, "F01072", "F01069", "F00070"),
@@ -946,7 +1099,7 @@ def exports_by_hand():
 def file_of(data, pick):
     """The calls of the paper over a file: each lent all that remains, or at least 292 bytes of it."""
     ids, entries = [9] * 3, [(9, 9, 9)] * 2
-    st, reply = walk.open_walk(HELD, ids, entries)
+    st, reply = walk.open_walk(PFML, HELD, ids, entries)
     while data and not reply.number:
         st, reply = walk.line_call(st, data[:pick.choice((292, 293, 600, len(data) + 292))], ids, entries)
         data = data[reply.taken:]
@@ -956,7 +1109,7 @@ def file_of(data, pick):
 def chance_file(pick):
     """A file by chance: often one that is accepted."""
     ids, entries, lines = [0] * 3, [NO_ENTRY] * 2, []
-    st, _ = walk.open_walk(HELD, ids, entries)
+    st, _ = walk.open_walk(PFML, HELD, ids, entries)
     while st.stage < ACCEPTED and len(lines) < 20:
         if st.stage == AFTER_F and pick.random() < 0.9:
             break
@@ -984,7 +1137,7 @@ def against_itself():
     for k in range(2000):
         data = chance_file(pick)
         ids, entries = [9] * 3, [(9, 9, 9)] * 2
-        answer = walk.whole_call(HELD, data, ids, entries)
+        answer = walk.whole_call(PFML, HELD, data, ids, entries)
         if (answer, ids, entries) != file_of(data, pick):
             wrong.append("file %d by calls" % k)
         if answer[0].stage == ACCEPTED:

@@ -1,4 +1,5 @@
-"""The walk over a wage file, written from document 01 alone: opening, one line, the end, and a whole file.
+"""The walk over a wage file, written from document 01: opening, one line, the end, and a whole file; and from include/wage.h, that a format is named at
+opening and kept.
 
 It shares nothing with the product. Every state gets an answer, one that a caller made up too, and so do any bytes and tables of any length.
 
@@ -16,8 +17,12 @@ MOST_ENTRIES = 65536
 MOST_LINES = 231074
 MOST_WAGES = 99999999999999
 MOST_FEIN = 999999999
-# the numbers that a refusal leaves in the state: those of lines and of the end of the input, and that of a bad quarter
-LEFT = {*range(1, 9), *range(10, 21), *range(30, 66), 70}
+# the formats by their numbers, and what a state holds for every number that names none
+PFML, NO_FORMAT = 0, 255
+# the numbers that an opening refuses with: they are answered again and touch nothing
+AT_OPENING = (70, 73)
+# the numbers that a refusal leaves in the state: those of lines and of the end of the input, and those of an opening
+LEFT = {*range(1, 9), *range(10, 21), *range(30, 66), *AT_OPENING}
 NO_ENTRY = (0, 0, 0)
 
 
@@ -42,6 +47,17 @@ class State(NamedTuple):
     number: int = 0
     line: int = 0
     column: int = 0
+    format: int = PFML
+    # PFML uses none of these: the open E's second sum, other records, nearest number, whether a note was seen, and its account; the file's second sum,
+    # other records and notes
+    second: int = 0
+    others: int = 0
+    nearest: int = 0
+    noted: int = 0
+    account: tuple = (0, 0)
+    all_second: int = 0
+    all_others: int = 0
+    notes: int = 0
 
 
 class Reply(NamedTuple):
@@ -75,6 +91,8 @@ def unfit(st, ids, entries):
         return True
     if st.stage == E_OPEN and open_e_unfit(st, ids):
         return True
+    if st.format != PFML and not (st.stage == REFUSED and st.number in AT_OPENING):
+        return True
     if st.stage == REFUSED:
         return st.number not in LEFT
     if not may_be_held(st.held):
@@ -87,10 +105,10 @@ def clear(ids, entries):
     entries[:] = [NO_ENTRY] * len(entries)
 
 
-def refuse(number, line, column, ids, entries):
-    """A refusal by an edit or by the end of the input: both tables zeroed, and of the state nothing kept but number and place."""
+def refuse(st, number, line, column, ids, entries):
+    """A refusal by an edit or by the end of the input: both tables zeroed, and of the state nothing kept but the format, number and place."""
     clear(ids, entries)
-    return State(stage=REFUSED, number=number, line=line, column=column), Reply(number, line, column)
+    return State(stage=REFUSED, number=number, line=line, column=column, format=st.format), Reply(number, line, column)
 
 
 def not_reading(st, ids, entries):
@@ -100,7 +118,7 @@ def not_reading(st, ids, entries):
     if st.stage == ACCEPTED:
         return st, Reply(71)
     if st.stage == REFUSED:
-        if st.number != 70:
+        if st.number not in AT_OPENING:
             clear(ids, entries)
         return st, Reply(st.number, st.line, st.column)
     return None
@@ -119,7 +137,9 @@ def context(st, text, ids, entries):
         seen_fein=number_on(text, 6, 14) in feins, seen_id=number_on(text, 2, 10) in ids[:st.used])
 
 
-NO_E = dict(fein=0, follow=0, count=0, sum=0, used=0)
+# what is zero of an open E's numbers where it has no S records yet
+NEW_E = dict(count=0, sum=0, used=0, second=0, others=0, nearest=0, noted=0, account=(0, 0))
+NO_E = dict(NEW_E, fein=0, follow=0)
 
 
 def after_line(st, text, ids, entries):
@@ -131,7 +151,7 @@ def after_line(st, text, ids, entries):
     if letter == "E":
         fein = number_on(text, 6, 14)
         entries[st.employers] = (fein, 0, 0)
-        return st._replace(stage=E_OPEN, employers=st.employers + 1, fein=fein, follow=number_on(text, 190, 190), count=0, sum=0, used=0)
+        return st._replace(stage=E_OPEN, employers=st.employers + 1, fein=fein, follow=number_on(text, 190, 190), **NEW_E)
     if letter == "S":
         identity, wages = number_on(text, 2, 10), number_on(text, 64, 77)
         if identity:
@@ -145,11 +165,14 @@ def after_line(st, text, ids, entries):
     return st._replace(stage=AFTER_F, **NO_E)
 
 
-def open_walk(held, ids, entries):
-    if not may_be_held(held):
-        return State(stage=REFUSED, number=70), Reply(70)
+def open_walk(named, held, ids, entries):
+    """`named` is the format's number."""
+    known = PFML if named == PFML else NO_FORMAT
+    number = 70 if not may_be_held(held) else 73 if known == NO_FORMAT else 0
+    if number:
+        return State(stage=REFUSED, number=number, format=known), Reply(number)
     clear(ids, entries)
-    return State(held=tuple(held)), Reply()
+    return State(held=tuple(held), format=known), Reply()
 
 
 def line_call(st, data, ids, entries):
@@ -159,7 +182,7 @@ def line_call(st, data, ids, entries):
     text = ref.upper(data[:290])
     number, place = records.judge(context(st, text, ids, entries), data)
     if number:
-        return refuse(number, st.lines + 1, place, ids, entries)
+        return refuse(st, number, st.lines + 1, place, ids, entries)
     return after_line(st, text, ids, entries), Reply(taken=place)
 
 
@@ -170,12 +193,12 @@ def end_call(st, ids, entries):
     if st.stage == AFTER_F:
         return st._replace(stage=ACCEPTED), Reply()
     number = {BEFORE_A: 5, AFTER_A: 6, E_OPEN: 7, AFTER_T: 8}[st.stage]
-    return refuse(number, st.lines + 1, 1, ids, entries)
+    return refuse(st, number, st.lines + 1, 1, ids, entries)
 
 
-def whole_call(held, data, ids, entries):
+def whole_call(named, held, data, ids, entries):
     """Opening, line calls while any byte remains and none is refused, then one end call, whose answer this is."""
-    st, reply = open_walk(held, ids, entries)
+    st, reply = open_walk(named, held, ids, entries)
     while data and not reply.number:
         st, reply = line_call(st, data, ids, entries)
         data = data[reply.taken:]
