@@ -26,7 +26,7 @@ FIXED_SEED = 1
 FIXED_CASES, DRAWN_CASES = 22000, 4000
 # A file that breaks 61 has more than 100,000 lines, so there are few of them and they are piped.
 LONG_CASES = 40
-SCRIPT_CALLS = 9000
+SCRIPT_CALLS = 11000
 # Two files each.
 PAIRS = 3000
 # How many of the first cases of each seed go through the program `acknowledge` as well, and how many long files.

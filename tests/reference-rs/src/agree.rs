@@ -9,7 +9,7 @@ use crate::lines::lines_of;
 use crate::meaning::{acknowledge, acknowledge_by_scanning, Entry, Outcome, Room};
 use crate::rng::Rng;
 use crate::tables::Tables;
-use crate::walk::{self, Answer, Standing, State};
+use crate::walk::{self, Answer, Format, Standing, State};
 
 /// Longer files are scanned by nobody: that takes the square of their length.
 const LONGEST_SCANNED: usize = 40_000;
@@ -54,7 +54,7 @@ fn check_walk(
     rng: &mut Rng,
 ) -> Result<(), String> {
     let mut tables = used(room);
-    let (state, answer) = walk::whole(held, &mut tables.ids, &mut tables.list, file);
+    let (state, answer) = walk::whole(Format::Pfml, held, &mut tables.ids, &mut tables.list, file);
     check_end(held, room, file, meaning, &state, answer, &tables)?;
     let (in_pieces, again, other) = walk_in_pieces(held, room, file, rng)?;
     if in_pieces != state || again != answer || other != tables {
@@ -112,7 +112,7 @@ fn walk_in_pieces(
     rng: &mut Rng,
 ) -> Result<(State, Answer, Tables), String> {
     let mut tables = used(room);
-    let (mut state, opening) = walk::open(held, &mut tables.ids, &mut tables.list);
+    let (mut state, opening) = walk::open(Format::Pfml, held, &mut tables.ids, &mut tables.list);
     let mut rest = file;
     let mut refusal: Option<Refusal> = opening;
     while !rest.is_empty() && refusal.is_none() {

@@ -3,14 +3,16 @@
 //! A command ends with `#`. Its first character names it, digits in fixed columns follow (counted
 //! from 1, the name being the first), and then, where a call is lent bytes, a stroke and these:
 //!
-//! - `O`, opening: year 2-6, month 7-8, ids lent 9-10, entries lent 11-12
+//! - `O`, opening: the format's number 2-21, year 22-26, month 27-28, ids lent 29-30, entries lent
+//!   31-32
 //! - `L`, a line: ids lent 2-3, entries lent 4-5; bytes
 //! - `E`, the end: ids lent 2-3, entries lent 4-5
 //! - `W`, a whole file: as `O`; bytes
 //! - `S`, another state: where it stands 2, the refusal's number 3-4, line 5-14 and column 15-19,
 //!   lines read 20-29, the quarter held 30-36, A's 37-43, the open E's FEIN 44-53, whether it says
 //!   that S records follow 54, its S records 55-64 and cents 65-83, the file's S records 84-93,
-//!   employers 94-103 and cents 104-122, ids in use 123-132
+//!   employers 94-103 and cents 104-122, ids in use 123-132; it is of PFML, and what PFML does not
+//!   use is zero
 //! - `T`, another id and another entry: the id's place 2-3, the id 4-13, the entry's place 14-15, its
 //!   FEIN 16-25, count 26-35 and cents 36-54; a place behind a table's end alters nothing
 //! - `X`, a line, lent a list of 65,540 entries: the state has 65,535 employers, or one or two more,
@@ -22,7 +24,7 @@
 //! - `G`, a field read: the record's letter 2, the field's number 3-22; the line, as bytes
 //! - `N`, another number in one word of the state: its place 2-3, the number 4-23; a place behind
 //!   the words alters nothing
-//! - `K`, what the calls to come are lent: words of state 2-3, at most 20, and of the answer 4, at
+//! - `K`, what the calls to come are lent: words of state 2-3, at most 30, and of the answer 4, at
 //!   most 6
 //!
 //! Here a command is written by the widths of its numbers and read by their columns, so that each
@@ -32,12 +34,14 @@ use crate::build::Built;
 use crate::calendar::Quarter;
 use crate::edits::{Phase, Refusal};
 use crate::meaning::{Entry, Room};
-use crate::walk::{OpenE, Standing, State};
+use crate::walk::{Format, OpenE, Standing, State, Unused, UnusedOfE};
 use crate::write::Written;
 
 #[derive(Clone, Debug, PartialEq, Eq)]
 pub enum Command {
     Open {
+        /// The format's number.
+        format: u64,
         held: Quarter,
         lent: Room,
     },
@@ -49,6 +53,7 @@ pub enum Command {
         lent: Room,
     },
     Whole {
+        format: u64,
         held: Quarter,
         lent: Room,
         bytes: Vec<u8>,
@@ -95,11 +100,11 @@ pub struct Lent {
 impl Lent {
     /// Just what there is to be written.
     pub const ENOUGH: Lent = Lent {
-        words: 17,
+        words: 27,
         answer: 4,
     };
     pub const MOST: Lent = Lent {
-        words: 20,
+        words: 30,
         answer: 6,
     };
 }
@@ -124,7 +129,7 @@ pub struct Alteration {
 }
 
 /// The numbers that the language can put into a refused state; another is read as the last.
-pub const NUMBERS: [u8; 10] = [1, 44, 63, 64, 65, 70, 71, 72, 80, 83];
+pub const NUMBERS: [u8; 11] = [1, 44, 63, 64, 65, 70, 71, 72, 73, 80, 83];
 
 /// The phases in the order of their numbers.
 pub const PHASES: [Phase; 5] = [
@@ -155,6 +160,15 @@ pub fn refusal_held(standing: Standing) -> Refusal {
     }
 }
 
+/// A state with zeros for all that PFML does not use, as `S` tells it.
+pub fn plain(state: &State) -> State {
+    let mut plain = *state;
+    plain.format = Format::Pfml;
+    plain.open.unused = UnusedOfE::default();
+    plain.unused = Unused::default();
+    plain
+}
+
 /// A command being written.
 struct Text(Vec<u8>);
 
@@ -165,6 +179,11 @@ impl Text {
         assert_eq!(digits.len(), width, "{value} has at most {width} digits");
         self.0.extend_from_slice(digits.as_bytes());
         self
+    }
+
+    /// What every opening is given.
+    fn opening(&mut self, format: u64, held: Quarter, lent: Room) -> &mut Text {
+        self.number(format, 20).quarter(held).lent(lent)
     }
 
     fn quarter(&mut self, quarter: Quarter) -> &mut Text {
@@ -183,6 +202,11 @@ impl Text {
     }
 
     fn state(&mut self, state: &State) {
+        assert_eq!(
+            plain(state),
+            *state,
+            "no column is for what PFML does not use"
+        );
         let refusal = refusal_held(state.standing);
         self.number(standing_number(state.standing), 1)
             .number(refusal.number.into(), 2)
@@ -247,7 +271,7 @@ impl Text {
 }
 
 impl Command {
-    /// Whether the columns of `S` hold a state's numbers.
+    /// Whether the columns of `S` hold a state's numbers, those apart that PFML does not use.
     pub fn tells(state: &State) -> bool {
         let (open, refusal) = (&state.open, refusal_held(state.standing));
         let years = [state.held.year, state.quarter_of_a.year, refusal.column];
@@ -296,10 +320,15 @@ impl Command {
     pub fn text(&self) -> Vec<u8> {
         let mut text = Text(vec![self.letter()]);
         match self {
-            Command::Open { held, lent } => drop(text.quarter(*held).lent(*lent)),
+            Command::Open { format, held, lent } => drop(text.opening(*format, *held, *lent)),
             Command::Line { lent, bytes } => text.lent(*lent).bytes(bytes),
             Command::End { lent } => drop(text.lent(*lent)),
-            Command::Whole { held, lent, bytes } => text.quarter(*held).lent(*lent).bytes(bytes),
+            Command::Whole {
+                format,
+                held,
+                lent,
+                bytes,
+            } => text.opening(*format, *held, *lent).bytes(bytes),
             Command::State(state) => text.state(state),
             Command::Tables(altered) => text.alteration(altered),
             Command::Beyond { more, bytes } => text.number(*more, 1).bytes(bytes),
@@ -329,8 +358,9 @@ impl Command {
         let columns = Columns(text);
         Some(match columns.0.first()? {
             b'O' => Command::Open {
-                held: columns.quarter(2)?,
-                lent: columns.lent(9)?,
+                format: columns.number(2, 21)?,
+                held: columns.quarter(22)?,
+                lent: columns.lent(29)?,
             },
             b'L' => Command::Line {
                 lent: columns.lent(2)?,
@@ -340,9 +370,10 @@ impl Command {
                 lent: columns.lent(2)?,
             },
             b'W' => Command::Whole {
-                held: columns.quarter(2)?,
-                lent: columns.lent(9)?,
-                bytes: columns.bytes(13)?,
+                format: columns.number(2, 21)?,
+                held: columns.quarter(22)?,
+                lent: columns.lent(29)?,
+                bytes: columns.bytes(33)?,
             },
             b'S' => Command::State(columns.state()?),
             b'T' => Command::Tables(columns.alteration()?),
@@ -404,7 +435,7 @@ impl Columns<'_> {
             phase @ 0..=4 => Standing::Among(PHASES[phase as usize]),
             _ => {
                 let known = NUMBERS.contains(&number);
-                let number = if known { number } else { NUMBERS[9] };
+                let number = if known { number } else { NUMBERS[10] };
                 Standing::Refused(Refusal::new(number, line, column))
             }
         })
@@ -412,6 +443,7 @@ impl Columns<'_> {
 
     fn state(&self) -> Option<State> {
         Some(State {
+            format: Format::Pfml,
             standing: self.standing()?,
             lines_read: self.number(20, 29)?,
             held: self.quarter(30)?,
@@ -422,10 +454,12 @@ impl Columns<'_> {
                 s: self.number(55, 64)?,
                 cents: self.number(65, 83)?,
                 ids_in_use: self.number(123, 132)?,
+                unused: UnusedOfE::default(),
             },
             s: self.number(84, 93)?,
             employers: self.number(94, 103)?,
             cents: self.number(104, 122)?,
+            unused: Unused::default(),
         })
     }
 
@@ -491,6 +525,7 @@ mod tests {
 
     fn state() -> State {
         State {
+            format: Format::Pfml,
             standing: Standing::Refused(Refusal::new(44, 3, 6)),
             held: Quarter::new(2026, 6),
             quarter_of_a: Quarter::new(2025, 12),
@@ -504,7 +539,9 @@ mod tests {
                 s: 2,
                 cents: 300,
                 ids_in_use: 1,
+                unused: UnusedOfE::default(),
             },
+            unused: Unused::default(),
         }
     }
 
@@ -524,7 +561,11 @@ mod tests {
             },
         };
         for (command, text) in [
-            (Command::Open { held, lent: LENT }, "O02026060403"),
+            (Command::Open { format: 0, held, lent: LENT }, "O0000000000000000000002026060403"),
+            (
+                Command::Open { format: u64::MAX, held, lent: LENT },
+                "O1844674407370955161502026060403",
+            ),
             (Command::End { lent: LENT }, "E0403"),
             (Command::Beyond { more: 2, bytes: bytes.clone() }, "X2|A\n"),
             (Command::Line { lent: LENT, bytes: Vec::new() }, "L0403|"),
@@ -559,7 +600,10 @@ mod tests {
                 "GE00000000000000000027|E2",
             ),
             (Command::Lend(Lent { words: 5, answer: 0 }), "K050"),
-            (Command::Whole { held, lent: LENT, bytes }, "W02026060403|A\n"),
+            (
+                Command::Whole { format: 9, held, lent: LENT, bytes },
+                "W0000000000000000000902026060403|A\n",
+            ),
             (
                 Command::Tables(altered),
                 "T01429496729599000000000700000000080000000000000000009",
@@ -578,7 +622,13 @@ mod tests {
     #[test]
     fn numbers_that_the_language_has_not() {
         let mut text = Command::State(state()).text();
-        for (digits, number) in [(b"99", 83), (b"45", 83), (b"80", 80), (b"01", 1)] {
+        for (digits, number) in [
+            (b"99", 83),
+            (b"45", 83),
+            (b"80", 80),
+            (b"73", 73),
+            (b"01", 1),
+        ] {
             text[2..4].copy_from_slice(digits);
             let Some(Command::State(read)) = Command::read(&text) else {
                 panic!("it is a state");
@@ -597,8 +647,10 @@ mod tests {
         assert_eq!(Command::read(b"BA290,|"), None);
         assert_eq!(Command::read(b"BA290,1"), None);
         assert_eq!(Command::read(b"GA0000000000000000000|"), None);
-        assert_eq!(Command::read(b"K214"), None);
-        assert_eq!(Command::read(b"K177"), None);
+        assert_eq!(Command::read(b"K314"), None);
+        assert_eq!(Command::read(b"K277"), None);
+        assert_eq!(Command::read(b"O1844674407370955161602026060403"), None);
+        assert_eq!(Command::read(b"O02026060403"), None);
         assert_eq!(Command::read(b"N0018446744073709551616"), None);
     }
 }

@@ -19,7 +19,8 @@
 //! - `reference scripts SEED COUNT SCRIPT TOLD`: writes a script of COUNT calls of the walk or a few
 //!   more, and calls that write, build or read among them, in the language of the program
 //!   `tests/c/calls.c` (`command` has it), and what that program must print. Prints how often each
-//!   number is the answer, and fails if 71, 72, one of 80 to 85, 87 or 88 comes fewer than 20 times.
+//!   number is the answer, and fails if one of 71 to 73, of 80 to 85, 87 or 88 comes fewer than 20
+//!   times.
 //! - `reference calls`: a script on standard input to what the program must print.
 //! - `reference one SEED COUNT K`: the input of one of these cases (counted from 0) to standard
 //!   output, and what it is to standard error. With `--long` it is one of the long files.

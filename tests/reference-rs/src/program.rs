@@ -11,7 +11,7 @@ use crate::edits::Refusal;
 use crate::frames;
 use crate::meaning::{Entry, Room};
 use crate::tables::Tables;
-use crate::walk::{self, Answer, LineAnswer, State};
+use crate::walk::{self, Answer, Format, LineAnswer, State};
 use crate::words::{state_in, words_of, Words, COUNT};
 use crate::write::Written;
 
@@ -71,11 +71,20 @@ impl Program {
     /// Does what a command says; those that call print a line.
     pub fn run(&mut self, command: &Command) -> Option<Told> {
         match command {
-            Command::Open { held, lent } => {
-                Some(self.opening(*lent, |ids, list| walk::open(*held, ids, list)))
+            Command::Open { format, held, lent } => {
+                let format = Format::named(*format);
+                Some(self.opening(*lent, |ids, list| walk::open(format, *held, ids, list)))
             }
-            Command::Whole { held, lent, bytes } => {
-                Some(self.opening(*lent, |ids, list| walk::whole(*held, ids, list, bytes)))
+            Command::Whole {
+                format,
+                held,
+                lent,
+                bytes,
+            } => {
+                let format = Format::named(*format);
+                Some(self.opening(*lent, |ids, list| {
+                    walk::whole(format, *held, ids, list, bytes)
+                }))
             }
             Command::Line { lent, bytes } => Some(self.call(*lent, |state, ids, list| {
                 walk::line(state, ids, list, bytes)
@@ -267,9 +276,10 @@ fn reply(answer: LineAnswer) -> Reply {
 }
 
 /// What a line or end call writes. "70: [...] each later line or end call answers 70 again and
-/// touches nothing", "71: [...] nothing changed", "72: [...] nothing changed": then no word.
+/// touches nothing", "71: [...] nothing changed", "72: [...] nothing changed", and 73 as 70: then
+/// no word.
 fn put_back(reply: Reply, state: &State, words: &mut Words) {
-    if !matches!(reply[0], 70..=72) {
+    if !matches!(reply[0], 70..=73) {
         *words = words_of(state);
     }
 }
@@ -344,7 +354,7 @@ mod tests {
     fn a_walk_that_is_accepted() {
         let printed = printed_for(&[
             command("E0403"),
-            command("O02026060201"),
+            command("O0000000000000000000002026060201"),
             with_line("L0201|", record_a(QUARTER, 1, &AUGUSTA), b"\n"),
             with_line("L0201|", record_e(QUARTER, FEIN, true, &AUGUSTA), b"\r\nE"),
             with_line(
@@ -360,20 +370,20 @@ mod tests {
             command("L0000|"),
         ]);
         let wanted = [
-            "72 0 0 0 |0 0 0 0 0 0 0 0 0 0 0 0 0 0 0 0 0 ||",
-            "0 0 0 0 |0 0 0 0 0 2026 6 0 0 0 0 0 0 0 0 0 0 ||",
-            "0 0 0 291 |1 0 0 0 1 2026 6 2026 3 0 0 0 0 0 0 0 0 ||",
-            "0 0 0 292 |2 0 0 0 2 2026 6 2026 3 12345678 1 0 0 0 1 0 0 ||12345678:0:0",
-            "0 0 0 291 |2 0 0 0 3 2026 6 2026 3 12345678 1 1 123456 1 1 123456 1 \
+            "72 0 0 0 |0 0 0 0 0 0 0 0 0 0 0 0 0 0 0 0 0 0 0 0 0 0 0 0 0 0 0 ||",
+            "0 0 0 0 |0 0 0 0 0 2026 6 0 0 0 0 0 0 0 0 0 0 0 0 0 0 0 0 0 0 0 0 ||",
+            "0 0 0 291 |1 0 0 0 1 2026 6 2026 3 0 0 0 0 0 0 0 0 0 0 0 0 0 0 0 0 0 0 ||",
+            "0 0 0 292 |2 0 0 0 2 2026 6 2026 3 12345678 1 0 0 0 1 0 0 0 0 0 0 0 0 0 0 0 0 ||12345678:0:0",
+            "0 0 0 291 |2 0 0 0 3 2026 6 2026 3 12345678 1 1 123456 1 1 123456 1 0 0 0 0 0 0 0 0 0 0 \
              |111111111|12345678:0:0",
-            "0 0 0 291 |2 0 0 0 4 2026 6 2026 3 12345678 1 2 123500 2 1 123500 1 \
+            "0 0 0 291 |2 0 0 0 4 2026 6 2026 3 12345678 1 2 123500 2 1 123500 1 0 0 0 0 0 0 0 0 0 0 \
              |111111111|12345678:0:0",
-            "0 0 0 291 |3 0 0 0 5 2026 6 2026 3 0 0 0 0 2 1 123500 0 ||12345678:2:123500",
-            "0 0 0 291 |4 0 0 0 6 2026 6 2026 3 0 0 0 0 2 1 123500 0 ||12345678:2:123500",
-            "0 0 0 0 |5 0 0 0 6 2026 6 2026 3 0 0 0 0 2 1 123500 0 ||12345678:2:123500",
-            "71 0 0 0 |5 0 0 0 6 2026 6 2026 3 0 0 0 0 2 1 123500 0 ||12345678:2:123500",
+            "0 0 0 291 |3 0 0 0 5 2026 6 2026 3 0 0 0 0 2 1 123500 0 0 0 0 0 0 0 0 0 0 0 ||12345678:2:123500",
+            "0 0 0 291 |4 0 0 0 6 2026 6 2026 3 0 0 0 0 2 1 123500 0 0 0 0 0 0 0 0 0 0 0 ||12345678:2:123500",
+            "0 0 0 0 |5 0 0 0 6 2026 6 2026 3 0 0 0 0 2 1 123500 0 0 0 0 0 0 0 0 0 0 0 ||12345678:2:123500",
+            "71 0 0 0 |5 0 0 0 6 2026 6 2026 3 0 0 0 0 2 1 123500 0 0 0 0 0 0 0 0 0 0 0 ||12345678:2:123500",
             // The list is lent too short for the one employer.
-            "72 0 0 0 |5 0 0 0 6 2026 6 2026 3 0 0 0 0 2 1 123500 0 ||12345678:2:123500",
+            "72 0 0 0 |5 0 0 0 6 2026 6 2026 3 0 0 0 0 2 1 123500 0 0 0 0 0 0 0 0 0 0 0 ||12345678:2:123500",
         ];
         assert_eq!(printed, wanted);
     }
@@ -393,6 +403,7 @@ mod tests {
                 s,
                 cents,
                 ids_in_use: 2,
+                ..OpenE::default()
             },
             ..State::opened(QUARTER)
         };
@@ -426,7 +437,7 @@ mod tests {
             format!("0 0 0 |{t}{}", " ".repeat(250)),
             format!("0 0 0 |{f}{}", " ".repeat(235)),
             "83 0 0 |".to_string(),
-            "72 0 0 0 |3 0 0 0 5 2026 3 2026 3 12345678 1 2 123500 2 1 123500 2 ||".to_string(),
+            "72 0 0 0 |3 0 0 0 5 2026 3 2026 3 12345678 1 2 123500 2 1 123500 2 0 0 0 0 0 0 0 0 0 0 ||".to_string(),
         ];
         assert_eq!(printed, wanted);
     }
@@ -435,7 +446,7 @@ mod tests {
     #[test]
     fn words_and_what_is_lent() {
         let printed = printed_for(&[
-            command("O02026060403"),
+            command("O0000000000000000000002026060403"),
             command("N0000000000000000000007"),
             command("E0403"),
             command("RT005"),
@@ -445,22 +456,22 @@ mod tests {
             command("N0100000000000000000044"),
             command("N0200000000004294967299"),
             command("N1000000000000000000002"),
-            command("K201"),
+            command("K301"),
             command("E0403"),
             command("F00018"),
-            command("K160"),
+            command("K260"),
             command("E0403"),
-            command("O02026060403"),
+            command("O0000000000000000000002026060403"),
             command("F00017"),
-            command("K174"),
+            command("K274"),
             command("F00016"),
         ]);
-        let refused = "6 44 4294967295 0 0 2026 6 0 0 0 1 0 0 0 0 0 0 ||";
+        let refused = "6 44 4294967295 0 0 2026 6 0 0 0 1 0 0 0 0 0 0 0 0 0 0 0 0 0 0 0 0 ||";
         let wanted = [
-            "0 0 0 0 |0 0 0 0 0 2026 6 0 0 0 0 0 0 0 0 0 0 ||".to_string(),
-            "72 0 0 0 |7 0 0 0 0 2026 6 0 0 0 0 0 0 0 0 0 0 ||".to_string(),
+            "0 0 0 0 |0 0 0 0 0 2026 6 0 0 0 0 0 0 0 0 0 0 0 0 0 0 0 0 0 0 0 0 ||".to_string(),
+            "72 0 0 0 |7 0 0 0 0 2026 6 0 0 0 0 0 0 0 0 0 0 0 0 0 0 0 0 0 0 0 0 ||".to_string(),
             "72 0 0 |.....".to_string(),
-            "72 0 0 0 |6 9 0 0 0 2026 6 0 0 0 0 0 0 0 0 0 0 ||".to_string(),
+            "72 0 0 0 |6 9 0 0 0 2026 6 0 0 0 0 0 0 0 0 0 0 0 0 0 0 0 0 0 0 0 0 ||".to_string(),
             format!("44 999 999 999 |{refused}"),
             "0 999 999 999 |FF2CFFFFFFFF0000/.".to_string(),
             format!("72 999 999 999 |{refused}"),
@@ -475,16 +486,91 @@ mod tests {
     #[test]
     fn bad_quarter_again() {
         let printed = printed_for(&[
-            command("O02026050403"),
+            command("O0000000000000000000002026050403"),
             command("N0200000000004294967299"),
             command("N1000000000000000000002"),
             command("L0403|"),
             command("E0403"),
-            command("O02026050403"),
+            command("O0000000000000000000002026050403"),
         ]);
-        let opened = "70 0 0 0 |6 70 0 0 0 0 0 0 0 0 0 0 0 0 0 0 0 ||";
-        let altered = "70 4294967295 0 0 |6 70 4294967299 0 0 0 0 0 0 0 2 0 0 0 0 0 0 ||";
+        let opened = "70 0 0 0 |6 70 0 0 0 0 0 0 0 0 0 0 0 0 0 0 0 0 0 0 0 0 0 0 0 0 0 ||";
+        let altered =
+            "70 4294967295 0 0 |6 70 4294967299 0 0 0 0 0 0 0 2 0 0 0 0 0 0 0 0 0 0 0 0 0 0 0 0 ||";
         assert_eq!(printed, [opened, altered, altered, opened]);
+    }
+
+    /// 72, 70 and 73 in their order; 73 again touches nothing, and a state of no format that was not
+    /// refused by an opening is unfit.
+    #[test]
+    fn no_format() {
+        let printed = printed_for(&[
+            command("T01000000000502000000000700000000080000000000000000009"),
+            command("O0000000000000000000902025090403"),
+            command("L0403|A\n"),
+            command("E0403"),
+            command("F00017"),
+            command("RT003"),
+            command("O0000000000000000000902025050403"),
+            command("O0000000000000000000002025050403"),
+            command("O1844674407370955161502025090403"),
+            command("N1700000000000000000009"),
+            command("N2100000000000000000002"),
+            command("E0403"),
+            command("N0100000000000000000044"),
+            command("E0403"),
+            command("K264"),
+            command("O0000000000000000000902025050403"),
+        ]);
+        let tables = "|0,5|0:0:0,0:0:0,7:8:9";
+        let zeros = |count| "0 ".repeat(count);
+        let opened = |number, format| {
+            let (before, behind) = (zeros(15), zeros(9));
+            format!("{number} 0 0 0 |6 {number} {before}{format} {behind}{tables}")
+        };
+        let altered = |answer, number| {
+            let (before, behind) = (zeros(15), zeros(5));
+            format!("{answer} 0 0 0 |6 {number} {before}9 0 0 0 2 {behind}{tables}")
+        };
+        let wanted = [
+            opened(73, 255),
+            opened(73, 255),
+            opened(73, 255),
+            "0 0 0 17 |FF49000000000000/".to_string(),
+            "83 0 0 |...".to_string(),
+            opened(70, 255),
+            opened(70, 0),
+            opened(73, 255),
+            altered(73, 73),
+            altered(72, 44),
+            altered(72, 44),
+        ];
+        assert_eq!(printed, wanted);
+    }
+
+    /// Words that PFML does not use: an S keeps them, a T sets the open E's to zero, a refusal all.
+    #[test]
+    fn words_that_are_not_used() {
+        let filled: Vec<Vec<u8>> = (18..27)
+            .map(|at| command(&format!("N{at}{at:020}")))
+            .collect();
+        let commands = [
+            vec![example_of(Phase::EOpen, 2, 123_500)],
+            filled,
+            vec![
+                with_line("L0301|", record_s(QUARTER, FEIN, 0, 0), b"\n"),
+                with_line("L0301|", record_t(FEIN, 3, 123_500), b"\n"),
+                command("L0301|"),
+            ],
+        ];
+        let printed = printed_for(&commands.concat());
+        let wanted = [
+            "0 0 0 291 |2 0 0 0 6 2026 3 2026 3 12345678 1 3 123500 3 1 123500 2 \
+             0 18 19 20 1 22 23 24 25 26 ||",
+            "0 0 0 291 |3 0 0 0 7 2026 3 2026 3 0 0 0 0 3 1 123500 0 \
+             0 0 0 0 0 0 0 24 25 26 ||0:3:123500",
+            "1 8 1 0 |6 1 8 1 0 0 0 0 0 0 0 0 0 0 0 0 0 0 0 0 0 0 0 0 0 0 0 ||",
+        ];
+        assert_eq!(printed, wanted);
     }
 
     /// Both tables are zeroed as far as they are lent, again with each call; 70 touches nothing.
@@ -492,28 +578,29 @@ mod tests {
     fn refusals() {
         let altered = "T01000000000502000000000700000000080000000000000000009";
         let printed = printed_for(&[
-            command("O02026060403"),
+            command("O0000000000000000000002026060403"),
             command(altered),
             command("L0403|A\n"),
             command(altered),
             command("L0102|"),
             command("E0403"),
             command(altered),
-            command("O02026050403"),
+            command("O0000000000000000000002026050403"),
             command("E0403"),
-            command("W02026060200|"),
+            command("W0000000000000000000002026060200|"),
         ]);
-        let refused = "1 1 2 0 |6 1 1 2 0 0 0 0 0 0 0 0 0 0 0 0 0 ";
-        let bad_quarter = "70 0 0 0 |6 70 0 0 0 0 0 0 0 0 0 0 0 0 0 0 0 ";
+        let refused = "1 1 2 0 |6 1 1 2 0 0 0 0 0 0 0 0 0 0 0 0 0 0 0 0 0 0 0 0 0 0 0 ";
+        let bad_quarter = "70 0 0 0 |6 70 0 0 0 0 0 0 0 0 0 0 0 0 0 0 0 0 0 0 0 0 0 0 0 0 0 ";
         let wanted = [
-            "0 0 0 0 |0 0 0 0 0 2026 6 0 0 0 0 0 0 0 0 0 0 ||".to_string(),
+            "0 0 0 0 |0 0 0 0 0 2026 6 0 0 0 0 0 0 0 0 0 0 0 0 0 0 0 0 0 0 0 0 ||".to_string(),
             format!("{refused}||"),
             // The second id and the third entry are not lent.
             format!("{refused}|0,5|0:0:0,0:0:0,7:8:9"),
             format!("{refused}||"),
             format!("{bad_quarter}|0,5|0:0:0,0:0:0,7:8:9"),
             format!("{bad_quarter}|0,5|0:0:0,0:0:0,7:8:9"),
-            "5 1 1 0 |6 5 1 1 0 0 0 0 0 0 0 0 0 0 0 0 0 ||0:0:0,0:0:0,7:8:9".to_string(),
+            "5 1 1 0 |6 5 1 1 0 0 0 0 0 0 0 0 0 0 0 0 0 0 0 0 0 0 0 0 0 0 0 ||0:0:0,0:0:0,7:8:9"
+                .to_string(),
         ];
         assert_eq!(printed, wanted);
     }
@@ -538,12 +625,12 @@ mod tests {
         let printed = printed_for(&[state, e("0", 8), e("0", 7), e("1", 8), e("2", 8)]);
         let entries = "7:8:9,7:8:9,7:8:9,7:8:9,7:8:9,7:8:9";
         let wanted = [
-            "0 0 0 291 |2 0 0 0 10 2026 6 2026 3 8 0 0 0 2 65536 300 0 \
+            "0 0 0 291 |2 0 0 0 10 2026 6 2026 3 8 0 0 0 2 65536 300 0 0 0 0 0 0 0 0 0 0 0 \
              |7:8:9,8:0:0,7:8:9,7:8:9,7:8:9,7:8:9"
                 .to_string(),
-            "45 10 6 0 |6 45 10 6 0 0 0 0 0 0 0 0 0 0 0 0 0 |".to_string(),
-            "63 10 6 0 |6 63 10 6 0 0 0 0 0 0 0 0 0 0 0 0 0 |".to_string(),
-            format!("72 0 0 0 |3 0 0 0 9 2026 6 2026 3 0 0 0 0 2 65537 300 0 |{entries}"),
+            "45 10 6 0 |6 45 10 6 0 0 0 0 0 0 0 0 0 0 0 0 0 0 0 0 0 0 0 0 0 0 0 |".to_string(),
+            "63 10 6 0 |6 63 10 6 0 0 0 0 0 0 0 0 0 0 0 0 0 0 0 0 0 0 0 0 0 0 0 |".to_string(),
+            format!("72 0 0 0 |3 0 0 0 9 2026 6 2026 3 0 0 0 0 2 65537 300 0 0 0 0 0 0 0 0 0 0 0 |{entries}"),
         ];
         assert_eq!(printed, wanted);
     }

@@ -8,6 +8,7 @@ mod broken;
 mod building;
 mod calls;
 mod chance;
+mod formats;
 mod frames;
 mod handed_on;
 mod lengths;
@@ -16,20 +17,21 @@ pub mod near;
 mod records;
 mod totals;
 mod unfit;
+mod unused;
 mod words;
 mod writing;
 
 use crate::build::Built;
 use crate::calendar::Quarter;
-use crate::command::{Alteration, Command, Lent};
+use crate::command::{plain, Alteration, Command, Lent};
 use crate::layout::LENGTH;
 use crate::meaning::Room;
 use crate::program::{Program, KEPT};
 use crate::rng::Rng;
 use crate::tables::Tables;
 use crate::tally::Numbers;
-use crate::walk::State;
-use crate::words::{state_in, words_of, Words};
+use crate::walk::{Format, State};
+use crate::words::{state_in, words_of, Words, FORMAT};
 use crate::write::Written;
 use moments::Moment;
 
@@ -37,7 +39,7 @@ use moments::Moment;
 pub const LONGEST: usize = 4_000_000;
 
 /// The numbers that no file gets: of them each script has enough.
-pub const PROMISED: [u8; 10] = [71, 72, 80, 81, 82, 83, 84, 85, 87, 88];
+pub const PROMISED: [u8; 11] = [71, 72, 73, 80, 81, 82, 83, 84, 85, 87, 88];
 
 /// While there are fixed scenes left, so many of them come to each one by chance.
 const FIXED_TO_CHANCE: usize = 4;
@@ -94,6 +96,8 @@ fn fixed_scenes() -> Vec<Scene> {
     handed_on::add(&mut scenes);
     frames::add(&mut scenes);
     words::add(&mut scenes);
+    formats::add(&mut scenes);
+    unused::add(&mut scenes);
     building::add(&mut scenes);
     scenes
 }
@@ -134,8 +138,13 @@ impl Script {
     }
 
     fn open(&mut self, held: Quarter) {
+        self.open_as(Format::Pfml.word(), held);
+    }
+
+    /// With the number of a format, or one that names none.
+    fn open_as(&mut self, format: u64, held: Quarter) {
         let lent = self.lent;
-        self.add(Command::Open { held, lent });
+        self.add(Command::Open { format, held, lent });
     }
 
     fn line(&mut self, bytes: &[u8]) {
@@ -149,8 +158,17 @@ impl Script {
     }
 
     fn whole(&mut self, held: Quarter, bytes: &[u8]) {
+        self.whole_as(Format::Pfml.word(), held, bytes);
+    }
+
+    fn whole_as(&mut self, format: u64, held: Quarter, bytes: &[u8]) {
         let (lent, bytes) = (self.lent, without_ends(bytes));
-        self.add(Command::Whole { held, lent, bytes });
+        self.add(Command::Whole {
+            format,
+            held,
+            lent,
+            bytes,
+        });
     }
 
     fn beyond(&mut self, more: u64, bytes: &[u8]) {
@@ -212,9 +230,17 @@ impl Script {
         &self.program.tables
     }
 
+    /// The columns of a command hold what PFML uses; the other words come one by one.
     fn set_state(&mut self, state: State) {
-        if words_of(&state) != self.program.words {
-            self.add(Command::State(state));
+        let words = words_of(&state);
+        if words == self.program.words {
+            return;
+        }
+        self.add(Command::State(plain(&state)));
+        for (at, number) in words.into_iter().enumerate().skip(FORMAT) {
+            if number != 0 {
+                self.word(at, number);
+            }
         }
     }
 
@@ -250,10 +276,10 @@ mod tests {
     use crate::tally::answers;
 
     #[test]
-    fn scripts_of_9000_calls() {
+    fn scripts_of_11000_calls() {
         for seed in 1..=5 {
-            let script = make(seed, 9_000);
-            assert!(script.calls >= 9_000);
+            let script = make(seed, 11_000);
+            assert!(script.calls >= 11_000);
             assert!(script.text.len() <= LONGEST, "{}", script.text.len());
             assert_eq!(script.fixed_scenes_left, 0);
             assert_eq!(script.numbers.check(PROMISED), Ok(()));

@@ -15,6 +15,31 @@ pub const MOST_LINES: u64 = 231_074;
 /// The most that 14 columns hold.
 pub const MOST_WAGES: u128 = 99_999_999_999_999;
 
+/// The format of a file. It is named at opening, by its number, and kept (include/wage.h).
+#[derive(Clone, Copy, Debug, PartialEq, Eq)]
+pub enum Format {
+    Pfml,
+    /// Every number that names none.
+    Unknown,
+}
+
+impl Format {
+    pub fn named(number: u64) -> Format {
+        match number {
+            0 => Format::Pfml,
+            _ => Format::Unknown,
+        }
+    }
+
+    /// The word that a state has for it.
+    pub fn word(self) -> u64 {
+        match self {
+            Format::Pfml => 0,
+            Format::Unknown => 255,
+        }
+    }
+}
+
 /// Where a walk stands (19: "The phase is one of seven").
 #[derive(Clone, Copy, Debug, PartialEq, Eq)]
 pub enum Standing {
@@ -32,11 +57,32 @@ pub struct OpenE {
     pub s: u64,
     pub cents: u64,
     pub ids_in_use: u64,
+    pub unused: UnusedOfE,
+}
+
+/// The open E's numbers that PFML uses none of: its second sum, its other records, the nearest
+/// number, whether a note was seen, and its account.
+#[derive(Clone, Copy, Debug, Default, PartialEq, Eq)]
+pub struct UnusedOfE {
+    pub second: u64,
+    pub others: u64,
+    pub nearest: u64,
+    pub noted: bool,
+    pub account: [u64; 2],
+}
+
+/// The file's numbers that PFML uses none of: its second sum, its other records, its notes.
+#[derive(Clone, Copy, Debug, Default, PartialEq, Eq)]
+pub struct Unused {
+    pub second: u64,
+    pub others: u64,
+    pub notes: u64,
 }
 
 /// All that goes from call to call beside the tables.
 #[derive(Clone, Copy, Debug, PartialEq, Eq)]
 pub struct State {
+    pub format: Format,
     pub standing: Standing,
     pub held: Quarter,
     pub quarter_of_a: Quarter,
@@ -45,6 +91,7 @@ pub struct State {
     pub s: u64,
     pub cents: u64,
     pub open: OpenE,
+    pub unused: Unused,
 }
 
 /// What a line call answers: the bytes taken, or a refusal and "0 if refused".
@@ -58,9 +105,10 @@ pub struct LineAnswer {
 pub type Answer = Option<Refusal>;
 
 impl State {
-    /// A walk that was just opened.
+    /// A walk over a PFML file that was just opened.
     pub fn opened(held: Quarter) -> State {
         State {
+            format: Format::Pfml,
             standing: Standing::Among(Phase::BeforeA),
             held,
             quarter_of_a: Quarter::default(),
@@ -69,13 +117,15 @@ impl State {
             s: 0,
             cents: 0,
             open: OpenE::default(),
+            unused: Unused::default(),
         }
     }
 
     /// "After these and 70 the state keeps number and place, every count and sum zero, no E open."
-    /// (16: "every other number zero, both quarters too, also after 70".)
-    fn refused(refusal: Refusal) -> State {
+    /// (16: "every other number zero, both quarters too, also after 70".) The format is kept.
+    fn refused(format: Format, refusal: Refusal) -> State {
         State {
+            format,
             standing: Standing::Refused(refusal),
             ..State::opened(Quarter::default())
         }
@@ -95,14 +145,18 @@ impl State {
 }
 
 /// The opening: "Opening zeroes both tables, every entry." "70: bad quarter at opening, line 0,
-/// column 0; nothing touched".
-pub fn open(held: Quarter, ids: &mut [u32], list: &mut [Entry]) -> (State, Answer) {
-    if !held.may_be_held() {
-        let refusal = Refusal::new(70, 0, 0);
-        return (State::refused(refusal), Some(refusal));
-    }
-    zero_both(ids, list);
-    (State::opened(held), None)
+/// column 0; nothing touched". "73, unknown edition, at opening after 70 and acting as 70 does".
+pub fn open(format: Format, held: Quarter, ids: &mut [u32], list: &mut [Entry]) -> (State, Answer) {
+    let number = match format {
+        _ if !held.may_be_held() => 70,
+        Format::Unknown => 73,
+        Format::Pfml => {
+            zero_both(ids, list);
+            return (State::opened(held), None);
+        }
+    };
+    let refusal = Refusal::new(number, 0, 0);
+    (State::refused(format, refusal), Some(refusal))
 }
 
 /// One line: "reads the first line of the bytes it is lent, answers how many bytes that line and
@@ -146,8 +200,14 @@ pub fn end(state: &mut State, ids: &mut [u32], list: &mut [Entry]) -> Answer {
 
 /// The same over a whole file in one slice: "line calls while any byte remains and none is refused,
 /// then one end call" (20: the final state and the end call's answer).
-pub fn whole(held: Quarter, ids: &mut [u32], list: &mut [Entry], file: &[u8]) -> (State, Answer) {
-    let (mut state, opening) = open(held, ids, list);
+pub fn whole(
+    format: Format,
+    held: Quarter,
+    ids: &mut [u32],
+    list: &mut [Entry],
+    file: &[u8],
+) -> (State, Answer) {
+    let (mut state, opening) = open(format, held, ids, list);
     let mut rest = file;
     let mut refused = opening.is_some();
     while !rest.is_empty() && !refused {
@@ -174,7 +234,7 @@ fn zero_both(ids: &mut [u32], list: &mut [Entry]) {
 /// "A refusal from 1 to 63, or a later number for an edit of a record, zeroes both, ends the walk".
 fn refuse(state: &mut State, ids: &mut [u32], list: &mut [Entry], refusal: Refusal) -> Refusal {
     zero_both(ids, list);
-    *state = State::refused(refusal);
+    *state = State::refused(state.format, refusal);
     refusal
 }
 
@@ -192,8 +252,8 @@ fn standing_answer(state: &State, ids: &mut [u32], list: &mut [Entry]) -> Result
         Standing::Accepted => Err(Refusal::new(71, 0, 0)),
         Standing::Refused(refusal) => {
             // "and is answered again, both zeroed again, to each later line or end call"; but 70:
-            // "each later line or end call answers 70 again and touches nothing".
-            if refusal.number != 70 {
+            // "each later line or end call answers 70 again and touches nothing", and so with 73.
+            if !is_of_an_opening(refusal.number) {
                 zero_both(ids, list);
             }
             Err(refusal)
@@ -206,6 +266,7 @@ pub fn unfit(state: &State, id_table: usize, employer_list: usize) -> bool {
     unfit_file(state, employer_list)
         || (state.e_is_open() && unfit_open_e(state, id_table))
         || unfit_standing(state)
+        || unfit_format(state)
 }
 
 /// What is tested in every walk, refused and ended too (18).
@@ -246,9 +307,23 @@ fn unfit_standing(state: &State) -> bool {
     !state.held.may_be_held() || (state.a_is_read() && !may_be_of_a(state.quarter_of_a, state.held))
 }
 
-/// The numbers of the table that end a walk or its opening, and 64 and 65.
+/// A format that is none, "unless the walk is refused with 70 or 73" (include/wage.h).
+fn unfit_format(state: &State) -> bool {
+    let by_opening = match state.standing {
+        Standing::Refused(refusal) => is_of_an_opening(refusal.number),
+        _ => false,
+    };
+    state.format == Format::Unknown && !by_opening
+}
+
+/// The numbers that an opening refuses with and leaves in the state.
+fn is_of_an_opening(number: u8) -> bool {
+    matches!(number, 70 | 73)
+}
+
+/// The numbers of the table that end a walk or its opening, 64, 65 and 73.
 pub fn is_left_by_a_refusal(number: u8) -> bool {
-    matches!(number, 1..=8 | 10..=20 | 30..=65 | 70)
+    matches!(number, 1..=8 | 10..=20 | 30..=65) || is_of_an_opening(number)
 }
 
 /// 18: "if A's edits pass it: from 2025 on, a quarter's month, closed or current".
@@ -276,7 +351,8 @@ fn columns(record: &Record, (first, last): (usize, usize)) -> u64 {
     record.value(first, last)
 }
 
-/// A, T and F leave the open E's numbers and ids in use zero.
+/// A, T and F leave the open E's numbers and ids in use zero, those that PFML does not use among
+/// them; an E leaves those zero too, an S leaves them as they are, and none changes the file's.
 fn take_a(state: &mut State, record: &Record) {
     state.standing = Standing::Among(Phase::AfterA);
     state.quarter_of_a = Quarter::new(

@@ -1,16 +1,19 @@
-//! The state of a walk as the 17 words that a caller of the exports keeps, and the state that any
+//! The state of a walk as the 27 words that a caller of the exports keeps, and the state that any
 //! words tell (docs/DECISIONS.md, "The state is words").
 
 use crate::calendar::Quarter;
 use crate::command::{refusal_held, standing_number, PHASES};
 use crate::edits::Refusal;
-use crate::walk::{OpenE, Standing, State};
+use crate::walk::{Format, OpenE, Standing, State, Unused, UnusedOfE};
 
-pub const COUNT: usize = 17;
+pub const COUNT: usize = 27;
+/// The place of the format, the first word behind those that a walk over PFML uses.
+pub const FORMAT: usize = 17;
 pub type Words = [u64; COUNT];
 
 pub fn words_of(state: &State) -> Words {
     let refusal = refusal_held(state.standing);
+    let (of_e, of_file) = (&state.open.unused, &state.unused);
     [
         standing_number(state.standing),
         refusal.number.into(),
@@ -29,6 +32,16 @@ pub fn words_of(state: &State) -> Words {
         state.employers,
         state.cents,
         state.open.ids_in_use,
+        state.format.word(),
+        of_e.second,
+        of_e.others,
+        of_e.nearest,
+        of_e.noted.into(),
+        of_e.account[0],
+        of_e.account[1],
+        of_file.second,
+        of_file.others,
+        of_file.notes,
     ]
 }
 
@@ -44,6 +57,7 @@ fn told(words: &[u64]) -> Option<State> {
     let words: &Words = words.first_chunk()?;
     let quarter = |place: usize| Quarter::new(words[place], words[place + 1]);
     Some(State {
+        format: Format::named(words[FORMAT]),
         standing: standing_in(words)?,
         lines_read: words[4].min(u32::MAX.into()),
         held: quarter(5),
@@ -54,10 +68,22 @@ fn told(words: &[u64]) -> Option<State> {
             s: words[11],
             cents: words[12],
             ids_in_use: words[16],
+            unused: UnusedOfE {
+                second: words[18],
+                others: words[19],
+                nearest: words[20],
+                noted: words[21] != 0,
+                account: [words[22], words[23]],
+            },
         },
         s: words[13],
         employers: words[14],
         cents: words[15],
+        unused: Unused {
+            second: words[24],
+            others: words[25],
+            notes: words[26],
+        },
     })
 }
 
@@ -79,9 +105,10 @@ fn refusal_in(words: &Words) -> Option<Refusal> {
     Some(Refusal::new(number, line, words[3].min(u16::MAX.into())))
 }
 
-/// The numbers of refusals in the papers: those of document 01's table, and 84 and 85 of document 02.
+/// The numbers of refusals in the papers: those of document 01's table, and 73, 84 and 85 of
+/// document 02.
 pub fn is_listed(number: u8) -> bool {
-    matches!(number, 1..=8 | 10..=20 | 30..=65 | 70..=72 | 80..=85)
+    matches!(number, 1..=8 | 10..=20 | 30..=65 | 70..=73 | 80..=85)
 }
 
 #[cfg(test)]
@@ -123,6 +150,19 @@ mod tests {
             (2, u64::MAX, true),
             (4, (1 << 32) + 5, false),
             (16, (1 << 32) + 1, false),
+            (17, 1, false),
+            (17, 255, false),
+            (17, 1 << 32, false),
+            (17, u64::MAX, false),
+            (18, u64::MAX, true),
+            (19, u64::MAX, true),
+            (20, u64::MAX, true),
+            (21, 2, true),
+            (22, u64::MAX, true),
+            (23, u64::MAX, true),
+            (24, u64::MAX, true),
+            (25, u64::MAX, true),
+            (26, u64::MAX, true),
         ] {
             let mut other = words;
             other[place] = number;
@@ -133,10 +173,14 @@ mod tests {
         words[3] = 65_536;
         for number in 0..1_000 {
             words[1] = number;
-            assert_eq!(
-                fit(&words),
-                matches!(number, 1..=8 | 10..=20 | 30..=65 | 70)
-            );
+            for (format, left) in [
+                (0, matches!(number, 1..=8 | 10..=20 | 30..=65 | 70 | 73)),
+                (9, matches!(number, 70 | 73)),
+                (255, matches!(number, 70 | 73)),
+            ] {
+                words[17] = format;
+                assert_eq!(fit(&words), left, "{number} under format {format}");
+            }
         }
         words[1] = 44;
         let standing = Standing::Refused(Refusal::new(44, 4_294_967_295, 65_535));

@@ -1,4 +1,5 @@
-//! Calls behind a refusal, behind 70 and behind acceptance; and the end in each phase.
+//! Calls behind a refusal, behind 70, which `formats` has for 73 too, and behind acceptance; and the
+//! end in each phase.
 
 use super::calls::again;
 use super::moments::{base, content, in_each_phase, refused, rest_of, walked, HELD, LENT};
@@ -10,7 +11,7 @@ use crate::edits::Refusal;
 use crate::meaning::Room;
 use crate::program::KEPT;
 use crate::rng::Rng;
-use crate::walk::{OpenE, Standing};
+use crate::walk::{OpenE, Standing, UnusedOfE};
 
 const NONE: Room = Room {
     ids: 0,
@@ -81,7 +82,15 @@ fn refused_state_with_other_numbers(rng: &mut Rng, script: &mut Script, number: 
         s: rng.below(9_999_999_999),
         cents: rng.next() >> 2,
         ids_in_use: 50,
+        unused: UnusedOfE {
+            second: rng.next(),
+            others: rng.next(),
+            nearest: rng.next(),
+            noted: rng.one_in(2),
+            account: [rng.next(), rng.next()],
+        },
     };
+    state.unused.notes = rng.next();
     script.set(&moment);
     again(rng, script);
 }

@@ -2,6 +2,7 @@
 
 use super::broken::broken;
 use super::calls::{some_frames, some_word, some_writing};
+use super::formats::some_format;
 use super::moments::{rest_of, walked};
 use super::near;
 use super::records::{line_for, piece, short_line, too_little};
@@ -118,7 +119,7 @@ fn walk(rng: &mut Rng, script: &mut Script) {
     let file = draft.file();
     let mut rest = &file[..];
     script.lent = some_room(rng);
-    script.open(draft.held);
+    script.open_as(some_format(rng), draft.held);
     let calm = rng.one_in(2);
     while !rest.is_empty() && matches!(script.state().standing, Standing::Among(_)) {
         if !calm && rng.one_in(6) {
@@ -176,7 +177,7 @@ fn whole(rng: &mut Rng, script: &mut Script) {
     if rng.one_in(2) {
         alter_tables(rng, script, &file);
     }
-    script.whole(draft.held, &file);
+    script.whole_as(some_format(rng), draft.held, &file);
     some_frames(rng, script);
     script.end();
     script.line(short_line(rng));

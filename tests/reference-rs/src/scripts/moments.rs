@@ -6,7 +6,7 @@ use crate::edits::Refusal;
 use crate::lines::first_line;
 use crate::meaning::{Entry, Room};
 use crate::tables::Tables;
-use crate::walk::{self, Standing, State};
+use crate::walk::{self, Format, Standing, State};
 
 /// A walk between two calls.
 #[derive(Clone, Debug)]
@@ -19,7 +19,7 @@ pub struct Moment {
 pub fn walked(draft: &Draft, lines: usize, room: Room) -> Moment {
     let mut tables = Tables::zero(room);
     let (ids, list) = tables.lend(room);
-    let (mut state, refusal) = walk::open(draft.held, ids, list);
+    let (mut state, refusal) = walk::open(Format::Pfml, draft.held, ids, list);
     assert_eq!(refusal, None);
     let file = draft.file();
     let mut rest = &file[..];

@@ -5,7 +5,7 @@ use crate::command::{NUMBERS, PHASES};
 use crate::draft::MOST_WAGES;
 use crate::edits::Refusal;
 use crate::rng::Rng;
-use crate::walk::{OpenE, Standing, State};
+use crate::walk::{Format, OpenE, Standing, State};
 use crate::write::{TOO_MUCH_FOR_F, TOO_MUCH_FOR_T};
 
 /// The most that the columns of a command hold.
@@ -16,11 +16,30 @@ const MOST_OF_LINES: u64 = 4_294_967_295;
 /// Alters one or two numbers.
 pub fn alter(rng: &mut Rng, state: &mut State) {
     for _ in 0..rng.between(1, 2) {
-        match rng.below(3) {
-            0 => alter_standing_or_quarter(rng, state),
-            1 => alter_file(rng, state),
-            _ => alter_open_e(rng, state),
+        match rng.below(12) {
+            0..=3 => alter_standing_or_quarter(rng, state),
+            4..=7 => alter_file(rng, state),
+            8..=10 => alter_open_e(rng, state),
+            _ => alter_unused(rng, state),
         }
+    }
+}
+
+/// The format, and what PFML does not use.
+fn alter_unused(rng: &mut Rng, state: &mut State) {
+    let any = rng.next() >> rng.below(64);
+    let (of_e, of_file) = (&mut state.open.unused, &mut state.unused);
+    match rng.below(10) {
+        0 => state.format = Format::Unknown,
+        1 => of_e.second = any,
+        2 => of_e.others = any,
+        3 => of_e.nearest = any,
+        4 => of_e.noted = !of_e.noted,
+        5 => of_e.account[0] = any,
+        6 => of_e.account[1] = any,
+        7 => of_file.second = any,
+        8 => of_file.others = any,
+        _ => of_file.notes = any,
     }
 }
 
@@ -114,7 +133,7 @@ fn near_quarter(rng: &mut Rng, own: Quarter) -> Quarter {
 #[cfg(test)]
 mod tests {
     use super::*;
-    use crate::command::Command;
+    use crate::command::{plain, Command};
     use crate::scripts::moments::in_each_phase;
     use crate::walk::unfit;
 
@@ -127,7 +146,7 @@ mod tests {
             let mut rng = Rng::of(21, 0, k);
             let mut state = moments[rng.index(moments.len())].state;
             alter(&mut rng, &mut state);
-            let command = Command::State(state);
+            let command = Command::State(plain(&state));
             assert_eq!(Command::read(&command.text()), Some(command));
             times_unfit += u64::from(unfit(&state, 4, 3));
         }

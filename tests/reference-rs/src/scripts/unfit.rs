@@ -7,7 +7,7 @@ use super::Scene;
 use crate::calendar::Quarter;
 use crate::draft::MOST_WAGES;
 use crate::layout::LENGTH;
-use crate::walk::{OpenE, State};
+use crate::walk::{Format, OpenE, State, Unused, UnusedOfE};
 
 type Alter = Box<dyn Fn(&mut State)>;
 
@@ -37,6 +37,7 @@ fn alterations() -> Vec<Alter> {
     quarters_held(&mut list);
     quarters_of_a(&mut list);
     current_quarters(&mut list);
+    push(&mut list, |state| state.format = Format::Unknown);
     untested(&mut list);
     list
 }
@@ -179,7 +180,8 @@ fn current_quarters(list: &mut Vec<Alter>) {
     }
 }
 
-/// What counts in some walks only: an open E's numbers, a quarter, an employer.
+/// What counts in some walks only: an open E's numbers, a quarter, an employer. What PFML does not
+/// use counts in none.
 fn untested(list: &mut Vec<Alter>) {
     let wild = OpenE {
         fein: 9_999_999_999,
@@ -187,6 +189,7 @@ fn untested(list: &mut Vec<Alter>) {
         s: 9_999_999_999,
         cents: 9_999_999_999_999_999_999,
         ids_in_use: 9_999_999_999,
+        unused: UnusedOfE::default(),
     };
     push(list, move |state| state.open = wild);
     push(list, |state| state.quarter_of_a = Quarter::new(99_999, 99));
@@ -198,6 +201,20 @@ fn untested(list: &mut Vec<Alter>) {
     push(list, |state| {
         (state.s, state.cents) = (5, 0);
         (state.open.s, state.open.cents) = (5, 5 * MOST_WAGES);
+    });
+    push(list, |state| {
+        state.open.unused = UnusedOfE {
+            second: u64::MAX,
+            others: u64::MAX,
+            nearest: u64::MAX,
+            noted: true,
+            account: [u64::MAX; 2],
+        };
+        state.unused = Unused {
+            second: u64::MAX,
+            others: u64::MAX,
+            notes: u64::MAX,
+        };
     });
 }
 
@@ -237,8 +254,10 @@ mod tests {
             "fu",
             "fu",
             "fu",
-            // What counts in some walks only.
-            "uuuf",
+            // A format that is none.
+            "u",
+            // What counts in some walks only, or in none.
+            "uuuff",
         ];
         parts.concat()
     }

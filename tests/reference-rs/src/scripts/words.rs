@@ -2,6 +2,7 @@
 //! numbers wider than the state's; and state and answer lent short or long.
 
 use super::calls::{line_then_end, record_for};
+use super::formats::NO_FORMATS;
 use super::moments::{base, content, e_open, in_each_phase, refused, Moment, HELD, LENT};
 use super::records::{line_for, short_line};
 use super::{Scene, Script};
@@ -44,16 +45,18 @@ pub fn add(scenes: &mut Vec<Scene>) {
             }));
         }
         for answer in 0..=Lent::MOST.answer {
-            let (moment, lent) = (moment.clone(), Lent { words: 18, answer });
+            let (moment, lent) = (moment.clone(), Lent { words: 28, answer });
             scenes.push(Box::new(move |rng, script| {
                 every_call(rng, script, &moment, lent);
             }));
         }
     }
-    // 70 again touches none of them.
-    scenes.push(Box::new(|rng, script| {
-        wide_numbers(rng, script, &refused(70));
-    }));
+    // 70 and 73 again touch none of them.
+    for number in [70, 73] {
+        scenes.push(Box::new(move |rng, script| {
+            wide_numbers(rng, script, &refused(number));
+        }));
+    }
     scenes.push(Box::new(numbers_of_refusals));
     scenes.push(Box::new(|_, script| flags(script)));
 }
@@ -96,7 +99,7 @@ fn wide_numbers(rng: &mut Rng, script: &mut Script, moment: &Moment) {
 
 /// A refusal's words in a walk that has none are not read, and are zeros behind the next call.
 fn refusal_of_others(rng: &mut Rng, script: &mut Script, moment: &Moment) {
-    for number in [1, 9, 44, 70, 71, 72, 300] {
+    for number in [1, 9, 44, 70, 71, 72, 73, 300] {
         script.lent = LENT;
         script.set(moment);
         for at in 1..4 {
@@ -148,9 +151,10 @@ fn every_call(rng: &mut Rng, script: &mut Script, moment: &Moment, lent: Lent) {
     script.frames(LENT.employers, 105);
     script.write(record_for(rng, moment.state.standing), LENGTH);
     script.set_tables(&content());
-    match rng.below(3) {
+    match rng.below(4) {
         0 => script.open(HELD),
         1 => script.open(Quarter::new(2026, 5)),
+        2 => script.open_as(rng.pick(&NO_FORMATS), HELD),
         _ => script.whole(HELD, &base().file()),
     }
     if rng.one_in(6) {

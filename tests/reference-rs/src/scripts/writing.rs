@@ -2,7 +2,7 @@
 //! numbers that a table would bound if it were lent; and the refusals in order.
 
 use super::moments::{
-    after_t, e_open, e_open_saying_0, e_open_without_s, in_each_phase, refused, Moment, LENT,
+    after_t, e_open, e_open_saying_0, e_open_without_s, in_each_phase, refused, Moment, HELD, LENT,
 };
 use super::records::record;
 use super::{Scene, Script};
@@ -18,7 +18,12 @@ use crate::write::{Written, TOO_MUCH_FOR_F, TOO_MUCH_FOR_T};
 const LENGTHS: [usize; 6] = [0, 1, 289, 290, 291, 300];
 
 pub fn add(scenes: &mut Vec<Scene>) {
-    let others = [e_open_without_s(), e_open_saying_0(), refused(70)];
+    let others = [
+        e_open_without_s(),
+        e_open_saying_0(),
+        refused(70),
+        refused(73),
+    ];
     for moment in in_each_phase().into_iter().chain(others) {
         scenes.push(Box::new(move |rng, script| {
             script.set(&moment);
@@ -26,7 +31,7 @@ pub fn add(scenes: &mut Vec<Scene>) {
             show(rng, script);
         }));
     }
-    scenes.push(Box::new(|_, script| after_70(script)));
+    scenes.push(Box::new(|_, script| after_an_opening(script)));
     scenes.push(Box::new(|_, script| sums_of_t(script)));
     scenes.push(Box::new(|_, script| sums_of_f(script)));
     scenes.push(Box::new(|_, script| numbers_of_t(script)));
@@ -72,12 +77,14 @@ fn show(rng: &mut Rng, script: &mut Script) {
     script.line(&[&next[..], b"\n"].concat());
 }
 
-/// The state that an opening with a bad quarter leaves.
-fn after_70(script: &mut Script) {
+/// The states that openings with a bad quarter and with no format leave.
+fn after_an_opening(script: &mut Script) {
     script.lent = LENT;
-    script.open(Quarter::new(2026, 5));
-    every_length(script);
-    script.end();
+    for (format, held) in [(0, Quarter::new(2026, 5)), (9, HELD)] {
+        script.open_as(format, held);
+        every_length(script);
+        script.end();
+    }
 }
 
 /// Sums where the columns of T end, where those of F end, and where the sign of 64 bits is.

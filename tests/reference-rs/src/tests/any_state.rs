@@ -8,7 +8,7 @@ use crate::draft::*;
 use crate::edits::{Phase, Refusal};
 use crate::meaning::Entry;
 use crate::rng::Rng;
-use crate::walk::{self, OpenE, Standing, State};
+use crate::walk::{self, Format, OpenE, Standing, State, UnusedOfE};
 
 /// A number that may be in a state: near a bound, small, or anything.
 fn any_number(rng: &mut Rng) -> u64 {
@@ -69,7 +69,7 @@ pub fn any_state(rng: &mut Rng) -> State {
     state.open.says_s_follow = !rng.one_in(3);
     for _ in 0..rng.below(4) {
         let (number, quarter) = (any_number(rng), any_quarter(rng));
-        match rng.below(11) {
+        match rng.below(15) {
             0 => state.held = quarter,
             1 => state.quarter_of_a = quarter,
             2 => state.lines_read = number,
@@ -80,6 +80,10 @@ pub fn any_state(rng: &mut Rng) -> State {
             7 => state.open.s = number,
             8 => state.open.cents = number,
             9 => state.open.ids_in_use = number,
+            10 if rng.one_in(4) => state.format = Format::Unknown,
+            11 => state.open.unused.second = number,
+            12 => state.open.unused.noted = true,
+            13 => state.unused.notes = number,
             _ => (state.open.s, state.open.cents) = (0, 0),
         }
     }
@@ -155,6 +159,12 @@ fn assert_changes(letter: u8, before: &Side, after: &Side) {
     assert_eq!(new.held, old.held);
     assert_eq!(new.employers, old.employers + u64::from(letter == b'E'));
     assert_eq!(new.s, old.s + u64::from(letter == b'S'));
+    assert_eq!((new.format, new.unused), (old.format, old.unused));
+    let wanted = match letter {
+        b'S' => old.open.unused,
+        _ => UnusedOfE::default(),
+    };
+    assert_eq!(new.open.unused, wanted);
     if b"ATF".contains(&letter) {
         assert_eq!(new.open, OpenE::default());
     }
@@ -198,8 +208,13 @@ fn assert_refused(refusal: Refusal, before: &Side, after: &Side) {
         assert_eq!(after.state, before.state);
     } else {
         let empty = State::opened(Quarter::default());
-        let standing = after.state.standing;
-        assert_eq!(after.state, State { standing, ..empty });
+        let (standing, format) = (after.state.standing, before.state.format);
+        let wanted = State {
+            standing,
+            format,
+            ..empty
+        };
+        assert_eq!(after.state, wanted);
     }
 }
 

@@ -10,7 +10,7 @@ use crate::meaning::Room;
 use crate::rng::Rng;
 use crate::tables::Tables;
 use crate::values::*;
-use crate::walk;
+use crate::walk::{self, Format};
 use crate::write::Written;
 
 const FEIN: u64 = 12_345_678;
@@ -278,7 +278,7 @@ fn the_walk_accepts_what_is_built() {
         };
         let mut tables = Tables::zero(room);
         let (ids, list) = tables.lend(room);
-        let (mut state, _) = walk::open(Q1, ids, list);
+        let (mut state, _) = walk::open(Format::Pfml, Q1, ids, list);
         let mut numbers = Vec::new();
         for record in records {
             let line = [&record[..], b"\n"].concat();

@@ -2,10 +2,11 @@
 
 use super::Q1;
 use crate::calendar::Quarter;
+use crate::command::PHASES;
 use crate::draft::*;
 use crate::edits::{Phase, Refusal};
 use crate::meaning::Entry;
-use crate::walk::{self, OpenE, Standing, State};
+use crate::walk::{self, Format, OpenE, Standing, State, Unused, UnusedOfE};
 
 const IDS: usize = 4;
 const LIST: usize = 3;
@@ -13,6 +14,7 @@ const LIST: usize = 3;
 /// A fit state with an E open, and the tables that go with it.
 pub fn e_open() -> (State, Vec<u32>, Vec<Entry>) {
     let state = State {
+        format: Format::Pfml,
         standing: Standing::Among(Phase::EOpen),
         held: Q1,
         quarter_of_a: Q1,
@@ -26,7 +28,9 @@ pub fn e_open() -> (State, Vec<u32>, Vec<Entry>) {
             s: 2,
             cents: 900,
             ids_in_use: 2,
+            unused: UnusedOfE::default(),
         },
+        unused: Unused::default(),
     };
     let entry = |fein, count, cents| Entry { fein, count, cents };
     let list = vec![entry(11, 1, 100), entry(77, 5, 6), entry(8, 8, 8)];
@@ -98,6 +102,7 @@ fn numbers_of_no_open_e() {
         s: u64::MAX,
         cents: u64::MAX,
         ids_in_use: u64::MAX,
+        unused: UNUSED_OF_E,
     };
     for phase in [Phase::BeforeA, Phase::AfterA, Phase::AfterT, Phase::AfterF] {
         assert_fit(|s| {
@@ -134,11 +139,16 @@ fn numbers_of_refused_walks() {
         let left = (1..=8).contains(&number)
             || (10..=20).contains(&number)
             || (30..=65).contains(&number)
-            || number == 70;
+            || number == 70
+            || number == 73;
         let (mut state, _, _) = e_open();
         state.standing = Standing::Refused(Refusal::new(number, 3, 4));
         state.held = Quarter::new(0, 0);
         assert_eq!(walk::unfit(&state, IDS, LIST), !left, "{number}");
+        // With a format that is none, only those of an opening are.
+        state.format = Format::Unknown;
+        let by_opening = number == 70 || number == 73;
+        assert_eq!(walk::unfit(&state, IDS, LIST), !by_opening, "{number}");
         // Counts are tested in a refused walk too.
         state.s = 100_001;
         assert!(walk::unfit(&state, IDS, LIST));
@@ -146,10 +156,10 @@ fn numbers_of_refused_walks() {
 }
 
 /// "and is answered again, both zeroed again, to each later line or end call"; 70 "touches
-/// nothing".
+/// nothing", and so does 73.
 #[test]
 fn refused_walks() {
-    for number in [1, 63, 64, 65, 70] {
+    for number in [1, 63, 64, 65, 70, 73] {
         let (mut state, mut ids, mut list) = e_open();
         let refusal = Refusal::new(number, 3, 4);
         state.standing = Standing::Refused(refusal);
@@ -159,7 +169,7 @@ fn refused_walks() {
         assert_eq!(walk::end(&mut state, &mut ids, &mut list), Some(refusal));
         assert_eq!(state, before.0);
         match number {
-            70 => assert_eq!((ids, list), (before.1, before.2)),
+            70 | 73 => assert_eq!((ids, list), (before.1, before.2)),
             _ => assert_eq!((ids, list), (vec![0; 4], vec![Entry::default(); 3])),
         }
     }
@@ -180,26 +190,118 @@ fn ended_walks() {
     assert_eq!((state, ids, list), before);
 }
 
-/// "Opening zeroes both tables, every entry." 70: "nothing touched".
+/// "Opening zeroes both tables, every entry." 70: "nothing touched". 73: "at opening after 70 and
+/// acting as 70 does".
 #[test]
 fn openings() {
     let (_, mut ids, mut list) = e_open();
-    let (state, answer) = walk::open(Q1, &mut ids, &mut list);
+    let (state, answer) = walk::open(Format::Pfml, Q1, &mut ids, &mut list);
     assert_eq!((answer, state.held, state.lines_read), (None, Q1, 0));
     assert_eq!((ids, list), (vec![0; 4], vec![Entry::default(); 3]));
 
-    let (_, mut ids, mut list) = e_open();
-    let before = (ids.clone(), list.clone());
-    let (mut state, answer) = walk::open(Quarter::new(2024, 3), &mut ids, &mut list);
-    let wanted = Some(Refusal::new(70, 0, 0));
-    assert_eq!(answer, wanted);
-    assert_eq!(
-        walk::line(&mut state, &mut ids, &mut list, b"A").refusal,
-        wanted
-    );
-    assert_eq!(walk::end(&mut state, &mut ids, &mut list), wanted);
-    assert_eq!((ids, list), before);
-    assert_eq!((state.held, state.s), (Quarter::default(), 0));
+    let bad = Quarter::new(2024, 3);
+    for (format, held, number) in [
+        (Format::Pfml, bad, 70),
+        (Format::Unknown, bad, 70),
+        (Format::Unknown, Q1, 73),
+    ] {
+        let (_, mut ids, mut list) = e_open();
+        let before = (ids.clone(), list.clone());
+        let (mut state, answer) = walk::open(format, held, &mut ids, &mut list);
+        let refusal = Refusal::new(number, 0, 0);
+        let wanted = Some(refusal);
+        assert_eq!(answer, wanted);
+        assert_eq!(
+            walk::line(&mut state, &mut ids, &mut list, b"A").refusal,
+            wanted
+        );
+        assert_eq!(walk::end(&mut state, &mut ids, &mut list), wanted);
+        assert_eq!(
+            walk::whole(format, held, &mut ids, &mut list, b"A\n"),
+            (state, wanted)
+        );
+        assert_eq!((ids, list), before);
+        let zeros = State::opened(Quarter::default());
+        let standing = Standing::Refused(refusal);
+        let left = State {
+            standing,
+            format,
+            ..zeros
+        };
+        assert_eq!(state, left);
+    }
+}
+
+/// By hand, from the header for C: 0 is PFML, another number none; a state has 255 for these.
+#[test]
+fn formats_by_their_numbers() {
+    assert_eq!(Format::named(0), Format::Pfml);
+    for number in [1, 9, 255, 256, 1 << 32, u64::MAX] {
+        assert_eq!(Format::named(number), Format::Unknown);
+    }
+    assert_eq!((Format::Pfml.word(), Format::Unknown.word()), (0, 255));
+}
+
+/// A format that is none: 72, in every walk that an opening did not refuse.
+#[test]
+fn walks_of_no_format() {
+    assert_unfit(|s| s.format = Format::Unknown);
+    let mut standings = vec![Standing::Accepted];
+    standings.extend(PHASES.map(Standing::Among));
+    standings.push(Standing::Refused(Refusal::new(44, 3, 4)));
+    for standing in standings {
+        assert_unfit(|s| {
+            s.format = Format::Unknown;
+            s.standing = standing;
+        });
+    }
+}
+
+const UNUSED_OF_E: UnusedOfE = UnusedOfE {
+    second: u64::MAX,
+    others: 19,
+    nearest: u64::MAX,
+    noted: true,
+    account: [22, u64::MAX],
+};
+const UNUSED: Unused = Unused {
+    second: u64::MAX,
+    others: 25,
+    notes: u64::MAX,
+};
+
+/// What PFML does not use: no clause of 72 compares it; S leaves it, A, E, T and F set the open E's
+/// to zero, the end leaves it and a refusal sets it to zero.
+#[test]
+fn numbers_that_pfml_does_not_use() {
+    let none = UnusedOfE::default();
+    for (phase, line, left) in [
+        (Phase::BeforeA, record_a(Q1, 1, &AUGUSTA), none),
+        (Phase::AfterA, record_e(Q1, 8, true, &AUGUSTA), none),
+        (Phase::EOpen, record_s(Q1, 77, 0, 50), UNUSED_OF_E),
+        (Phase::EOpen, record_t(77, 2, 900), none),
+        (Phase::AfterT, record_f(3, 2, 1_000), none),
+    ] {
+        let (mut state, mut ids, mut list) = e_open();
+        state.standing = Standing::Among(phase);
+        state.open.unused = UNUSED_OF_E;
+        state.unused = UNUSED;
+        let before = state;
+        let answer = walk::line(&mut state, &mut ids, &mut list, &with_end(line));
+        assert_eq!(answer.refusal, None);
+        assert_eq!((state.open.unused, state.unused), (left, UNUSED));
+
+        state = before;
+        let refusal = walk::line(&mut state, &mut ids, &mut list, b"").refusal;
+        assert_eq!(refusal, Some(Refusal::new(1, 6, 1)));
+        assert_eq!((state.open.unused, state.unused), (none, Unused::default()));
+    }
+    let (mut state, mut ids, mut list) = e_open();
+    state.standing = Standing::Among(Phase::AfterF);
+    state.open.unused = UNUSED_OF_E;
+    state.unused = UNUSED;
+    assert_eq!(walk::end(&mut state, &mut ids, &mut list), None);
+    assert_eq!((state.open.unused, state.unused), (UNUSED_OF_E, UNUSED));
 }
 
 fn with_end(text: Vec<u8>) -> Vec<u8> {

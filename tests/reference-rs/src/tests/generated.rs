@@ -11,7 +11,7 @@ use crate::gen::{Cases, Options};
 use crate::meaning::{acknowledge, Entry, Outcome, Room};
 use crate::rng::Rng;
 use crate::tally::Tally;
-use crate::walk;
+use crate::walk::{self, Format};
 use std::collections::HashSet;
 
 /// The maker of each case knows what it gets, and the readings here agree.
@@ -95,6 +95,6 @@ fn most_employers() {
     let line_of_last_e = 2 * 65_536 + 2;
     assert_eq!(acknowledge(Q1, room, &more), refused(63, line_of_last_e, 6));
     let mut list = vec![Entry::default(); 70_000];
-    let (_, answer) = walk::whole(Q1, &mut [], &mut list, &more);
+    let (_, answer) = walk::whole(Format::Pfml, Q1, &mut [], &mut list, &more);
     assert_eq!(answer, Some(Refusal::new(63, line_of_last_e, 6)));
 }

@@ -10,7 +10,7 @@ use crate::layout::LENGTH;
 use crate::meaning::Room;
 use crate::rng::Rng;
 use crate::tables::Tables;
-use crate::walk::{self, Answer, LineAnswer, OpenE, Standing, State};
+use crate::walk::{self, Answer, Format, LineAnswer, OpenE, Standing, State};
 use crate::write::{write_f, write_t, Written};
 
 /// A slice with something in each byte.
@@ -64,7 +64,7 @@ fn records_of_the_example() {
         ids: 2,
         employers: 1,
     });
-    let (mut state, _) = walk::open(Q1, ids, list);
+    let (mut state, _) = walk::open(Format::Pfml, Q1, ids, list);
     for line in file.chunks(LENGTH + 1).take(4) {
         assert_eq!(walk::line(&mut state, ids, list, line).refusal, None);
     }
@@ -149,6 +149,7 @@ fn unfit_states() {
             refused(&|state| state.lines_read = 231_075);
             refused(&|state| state.held = Quarter::new(2026, 4));
             refused(&|state| state.quarter_of_a = Quarter::new(2024, 12));
+            refused(&|state| state.format = Format::Unknown);
             refused(&|state| state.standing = Standing::Refused(Refusal::new(66, 1, 1)));
             refused(&|state| state.standing = Standing::Refused(Refusal::new(80, 0, 0)));
         }
@@ -189,6 +190,7 @@ fn out_of_place() {
         Standing::Accepted,
         refused(44),
         refused(70),
+        refused(73),
     ] {
         for record in Written::BOTH {
             assert_refused(record, LENGTH, 80, |state| {
@@ -341,7 +343,7 @@ fn records_of_valid_files() {
         };
         let mut tables = Tables::zero(room);
         let (ids, list) = tables.lend(room);
-        let (mut state, _) = walk::open(draft.held, ids, list);
+        let (mut state, _) = walk::open(Format::Pfml, draft.held, ids, list);
         for line in &draft.lines {
             for record in Written::BOTH {
                 let (answer, slice) = written(record, &state);
