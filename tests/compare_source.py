@@ -8,7 +8,8 @@ DOCUMENTS is the folder that holds document 000 (its file name begins with 000_)
 
 The five tables and the codes are read from document 000. What each field is, its class, follows from the table's own words: type, rules
 and the field's name. The readings of document 01 (which location is read as two, how many fields, which reasons) are read from its sentences,
-and from those of document 02 the reasons that its requests add, where docs/changes has a note of the request.
+and from those of document 02 the reasons that its requests add, where docs/changes has a note of the request; that of an unknown format at opening is there
+before its request.
 One line for each comparison; the last line is 'N passed, M failed'.
 """
 import argparse
@@ -163,6 +164,11 @@ def later_numbers(requests, built):
         if built(name):
             numbers |= {int(n) for n in re.findall(r"(?<![\d,.])([1-9]\d)(?![\d,]\d)(?!\d)", refusals)}
     return numbers
+
+
+def opening_numbers(requests):
+    """That of request (vii), 'Refusals: 73, unknown edition, at opening after 70': a format is named at opening, with one to name so far."""
+    return {int(n) for n in re.findall(r"Refusals: (\d+), unknown edition, at opening after 70", requests)}
 
 
 # ---- the crates
@@ -349,6 +355,7 @@ def main():
     folder = given.documents or os.path.join(given.root, "..", "shared", "documents")
     source, paper, requests = document(folder, "000_"), document(folder, "01-scope"), document(folder, "02-change")
     later = later_numbers(requests, lambda name: os.path.exists(os.path.join(given.root, "docs", "changes", name + ".md")))
+    later |= opening_numbers(requests)
     fields, read = as_read(source, paper), reader(given.root)
     compare_source(source, paper, fields)
     compare("the list of fields", compare_fields, read, source, fields)

@@ -30,6 +30,8 @@ WHOLE_STACK, CALL_STACK = 65536, 4096
 # The classes of fields that are given as texts, and those that no caller gives.
 TEXTS = {"RequiredText", "OptionalText", "PersonName", "StateCode", "ZipCode", "ZipExtension"}
 CONSTANTS = {"RecordLetter", "EntityCode", "BlankSpace"}
+# The constants that the Rust crate has too, there without the WAGE_ in front.
+IN_RUST = ("ABI_VERSION", "FORMAT_PFML", "FORMAT_NONE", "UNKNOWN_FORMAT", "STATE_WORDS")
 
 passed = 0
 failed = 0
@@ -159,10 +161,14 @@ def header():
         done = run(command[0], *strict, *command[1:], text=True)
         check("%s: %s" % (" ".join(command), done.stderr), done.returncode == 0)
     exported = exports()
-    check("there are exports", len(exported) == 13)
+    check("there are exports", len(exported) == 14)
     fields_in_header(read("include", "wage.h").decode())
     check("wage.h declares them", sorted(re.findall(r"^uint64_t (\w+)\(", read("include", "wage.h").decode(), re.M)) == exported)
-    check("the Rust crate declares them", sorted(re.findall(r"pub fn (wage_\w+)\(", read("tests", "rust-exports", "src", "lib.rs").decode())) == exported)
+    rust_crate = read("tests", "rust-exports", "src", "lib.rs").decode()
+    check("the Rust crate declares them", sorted(re.findall(r"pub fn (wage_\w+)\(", rust_crate)) == exported)
+    for name in IN_RUST:
+        told = re.findall(r"\bWAGE_%s(?: =)? (\d+)\b" % name, read("include", "wage.h").decode())
+        check("%s in the Rust crate and in wage.h" % name, len(told) == 1 and told == re.findall(r"pub const %s: \w+ = (\d+);" % name, rust_crate))
 
 
 def unindented(text):

@@ -9,7 +9,9 @@ pub mod exports {
     use super::Employer;
 
     extern "C" {
+        pub fn wage_abi_version() -> u64;
         pub fn wage_open(
+            format: u64,
             year: u64,
             month: u64,
             state: *mut u64,
@@ -44,6 +46,7 @@ pub mod exports {
             list_length: usize,
         ) -> u64;
         pub fn wage_whole(
+            format: u64,
             year: u64,
             month: u64,
             bytes: *const u8,
@@ -131,6 +134,27 @@ pub mod exports {
     }
 }
 
+/// The version of the exports that this crate declares. A program compares it with `abi_version`
+/// before it makes any other call.
+pub const ABI_VERSION: u64 = 1;
+
+/// The version of the library that is linked.
+pub fn abi_version() -> u64 {
+    unsafe { exports::wage_abi_version() }
+}
+
+/// The number of the format PFML, the paid leave wage file.
+pub const FORMAT_PFML: u64 = 0;
+
+/// What the state of a walk holds that was opened with a number that names no format.
+pub const FORMAT_NONE: u64 = 255;
+
+/// The number of the refusal of such an opening.
+pub const UNKNOWN_FORMAT: u64 = 73;
+
+/// So many words has the state of a walk; `include/wage.h` says what stands where.
+pub const STATE_WORDS: usize = 27;
+
 /// An entry of the employer list.
 #[repr(C)]
 #[derive(Clone, Copy, Debug, Default, PartialEq, Eq)]
@@ -153,8 +177,7 @@ pub struct Refusal {
 /// A walk over a file, with its two tables. Until it is opened every call answers 72.
 #[derive(Clone, Debug, PartialEq, Eq)]
 pub struct Walk {
-    /// `include/wage.h` says what stands where.
-    pub state: [u64; 17],
+    pub state: [u64; STATE_WORDS],
     pub ids: Vec<u32>,
     pub list: Vec<Employer>,
 }
@@ -163,18 +186,19 @@ impl Walk {
     /// Room for so many identity numbers under one employer, and for so many employers.
     pub fn new(ids: usize, employers: usize) -> Walk {
         Walk {
-            state: [0; 17],
+            state: [0; STATE_WORDS],
             ids: vec![0; ids],
             list: vec![Employer::default(); employers],
         }
     }
 
-    /// Opens it for the last closed quarter.
-    pub fn open(&mut self, year: u64, month: u64) -> Result<(), Refusal> {
+    /// Opens it over a file of the format with this number, for the last closed quarter.
+    pub fn open(&mut self, format: u64, year: u64, month: u64) -> Result<(), Refusal> {
         let (state, ids, list) = (&mut self.state, &mut self.ids, &mut self.list);
         let mut answer = [0; 4];
         unsafe {
             exports::wage_open(
+                format,
                 year,
                 month,
                 state.as_mut_ptr(),
@@ -232,11 +256,18 @@ impl Walk {
     }
 
     /// A file in one piece, from the opening to the end.
-    pub fn whole(&mut self, year: u64, month: u64, bytes: &[u8]) -> Result<(), Refusal> {
+    pub fn whole(
+        &mut self,
+        format: u64,
+        year: u64,
+        month: u64,
+        bytes: &[u8],
+    ) -> Result<(), Refusal> {
         let (state, ids, list) = (&mut self.state, &mut self.ids, &mut self.list);
         let mut answer = [0; 4];
         unsafe {
             exports::wage_whole(
+                format,
                 year,
                 month,
                 bytes.as_ptr(),

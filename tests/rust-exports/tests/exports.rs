@@ -3,7 +3,8 @@
 
 use std::fs;
 use std::path::{Path, PathBuf};
-use wage::{exports, field_number, field_text, Employer, Record, Refusal, Walk, NO_ACCOUNT};
+use wage::{abi_version, exports, field_number, field_text, Employer, Record, Refusal, Walk};
+use wage::{ABI_VERSION, FORMAT_NONE, FORMAT_PFML, NO_ACCOUNT, STATE_WORDS, UNKNOWN_FORMAT};
 
 const YEAR: u64 = 2026;
 const MONTH: u64 = 6;
@@ -12,6 +13,9 @@ const EARLIER: [&str; 2] = ["accepted-closing-this-quarter", "refused-65-not-fin
 const STANDING: usize = 0;
 const REFUSAL: usize = 1;
 const S_FOLLOW: usize = 10;
+const FORMAT: usize = 17;
+const OPEN_SECOND: usize = 18;
+const FILE_SECOND: usize = 24;
 
 fn example(name: &str) -> Vec<u8> {
     let path = Path::new(env!("CARGO_MANIFEST_DIR")).join("../../examples");
@@ -45,7 +49,7 @@ fn whole_files() {
     assert!(examples().len() >= 5);
     for path in examples() {
         let mut walk = Walk::new(8192, 1024);
-        let answer = walk.whole(YEAR, month(&path), &fs::read(&path).unwrap());
+        let answer = walk.whole(FORMAT_PFML, YEAR, month(&path), &fs::read(&path).unwrap());
         let accepted = path
             .file_name()
             .unwrap()
@@ -64,13 +68,16 @@ fn files_line_by_line() {
         let (mut walk, mut other) = (Walk::new(9, 3), Walk::new(9, 3));
         let file = fs::read(&path).unwrap();
         let mut rest = &file[..];
-        walk.open(YEAR, month(&path)).unwrap();
+        walk.open(FORMAT_PFML, YEAR, month(&path)).unwrap();
         while let Some(Ok(taken)) =
             (!rest.is_empty()).then(|| walk.line(&rest[..rest.len().min(292)]))
         {
             rest = &rest[taken..];
         }
-        assert_eq!(walk.end(), other.whole(YEAR, month(&path), &file));
+        assert_eq!(
+            walk.end(),
+            other.whole(FORMAT_PFML, YEAR, month(&path), &file)
+        );
         assert_eq!(walk, other);
     }
 }
@@ -78,8 +85,13 @@ fn files_line_by_line() {
 #[test]
 fn employers_of_a_file() {
     let mut walk = Walk::new(2, 3);
-    walk.whole(YEAR, MONTH, &example("accepted-one-employer.txt"))
-        .unwrap();
+    walk.whole(
+        FORMAT_PFML,
+        YEAR,
+        MONTH,
+        &example("accepted-one-employer.txt"),
+    )
+    .unwrap();
     let entry = Employer {
         fein: 12_345_678,
         count: 2,
@@ -95,7 +107,7 @@ fn records_written() {
     let file = example("accepted-one-employer.txt");
     let mut walk = Walk::new(2, 1);
     let (mut rest, mut out) = (&file[..], [b'.'; 292]);
-    walk.open(YEAR, MONTH).unwrap();
+    walk.open(FORMAT_PFML, YEAR, MONTH).unwrap();
     while !rest.is_empty() {
         match rest[0] {
             b'T' => walk.write_t(&mut out[..290]).unwrap(),
@@ -116,10 +128,15 @@ fn records_written() {
 fn walks_that_have_ended_or_not() {
     let mut walk = Walk::new(2, 1);
     let mut out = [b'.'; 70];
-    walk.open(YEAR, MONTH).unwrap();
+    walk.open(FORMAT_PFML, YEAR, MONTH).unwrap();
     assert_eq!(number(walk.frames_into(&mut out)), 87);
-    walk.whole(YEAR, MONTH, &example("accepted-one-employer.txt"))
-        .unwrap();
+    walk.whole(
+        FORMAT_PFML,
+        YEAR,
+        MONTH,
+        &example("accepted-one-employer.txt"),
+    )
+    .unwrap();
     let kept = walk.clone();
     assert_eq!(walk.end().unwrap_err().number, 71);
     assert_eq!(number(walk.line(b"A\n")), 71);
@@ -132,7 +149,7 @@ fn walks_that_have_ended_or_not() {
         line: 0,
         column: 0,
     };
-    assert_eq!(walk.open(YEAR, 5), Err(refusal));
+    assert_eq!(walk.open(FORMAT_PFML, YEAR, 5), Err(refusal));
     assert_eq!(walk.end(), Err(refusal));
     assert_eq!(walk.list, kept.list);
 }
@@ -142,7 +159,7 @@ fn walks_that_have_ended_or_not() {
 fn words_altered() {
     let mut walk = Walk::new(2, 1);
     assert_eq!(walk.end().unwrap_err().number, 72);
-    walk.open(YEAR, MONTH).unwrap();
+    walk.open(FORMAT_PFML, YEAR, MONTH).unwrap();
     for (place, word) in [(STANDING, 7), (STANDING, u64::MAX), (REFUSAL, 9)] {
         let mut other = walk.clone();
         other.state[STANDING] = 6;
@@ -162,14 +179,85 @@ fn words_altered() {
     assert_eq!(walk.state[S_FOLLOW], 1);
 }
 
+#[test]
+fn version() {
+    assert_eq!(abi_version(), ABI_VERSION);
+}
+
+/// A number that names no format acts as a bad quarter does, which comes before it.
+#[test]
+fn openings_of_no_format() {
+    let file = example("accepted-one-employer.txt");
+    for (format, month, number) in [(1, MONTH, 73), (9, 5, 70), (u64::MAX, MONTH, 73)] {
+        let mut walk = Walk::new(2, 1);
+        walk.ids = vec![5, 6];
+        let ids = walk.ids.clone();
+        let refusal = Refusal {
+            number,
+            line: 0,
+            column: 0,
+        };
+        assert_eq!(walk.open(format, YEAR, month), Err(refusal));
+        let mut left = [0; STATE_WORDS];
+        (left[STANDING], left[REFUSAL], left[FORMAT]) = (6, number, FORMAT_NONE);
+        assert_eq!((walk.state, &walk.ids), (left, &ids));
+        assert_eq!(walk.line(&file), Err(refusal));
+        assert_eq!(walk.end(), Err(refusal));
+        assert_eq!(walk.whole(format, YEAR, month, &file), Err(refusal));
+        assert_eq!((walk.state, &walk.ids), (left, &ids));
+        let frame = format!("FF{number:02X}000000000000\n");
+        assert_eq!(walk.frames(), Ok(frame.into_bytes()));
+        assert_eq!(walk.write_t(&mut [0; 290]).unwrap_err().number, 80);
+    }
+    assert_eq!(UNKNOWN_FORMAT, 73);
+}
+
+/// A format that is none is unfit, and every word stays.
+#[test]
+fn format_altered() {
+    let mut walk = Walk::new(2, 1);
+    walk.open(FORMAT_PFML, YEAR, MONTH).unwrap();
+    for format in [1, FORMAT_NONE, 1 << 32, u64::MAX] {
+        let mut other = walk.clone();
+        other.state[FORMAT] = format;
+        let kept = other.clone();
+        assert_eq!(
+            number(other.line(&example("accepted-one-employer.txt"))),
+            72
+        );
+        assert_eq!(other.end().unwrap_err().number, 72);
+        assert_eq!(other, kept);
+    }
+}
+
+/// Words that PFML does not use: S keeps them, T sets those of the open E to zero.
+#[test]
+fn words_that_are_not_used() {
+    let file = example("accepted-one-employer.txt");
+    let mut walk = Walk::new(2, 1);
+    walk.open(FORMAT_PFML, YEAR, MONTH).unwrap();
+    for (k, line) in file.chunks(291).enumerate() {
+        if line[0] == b'S' {
+            walk.state[OPEN_SECOND..].fill(1);
+        }
+        assert_eq!(walk.line(line), Ok(291), "line {k}");
+        let open = u64::from(line[0] == b'S');
+        let of_file = u64::from(b"STF".contains(&line[0]));
+        assert_eq!(walk.state[OPEN_SECOND..FILE_SECOND], [open; 6]);
+        assert_eq!(walk.state[FILE_SECOND..], [of_file; 3]);
+    }
+    assert_eq!(walk.end(), Ok(()));
+}
+
 /// Fewer words of state and of the answer than there are.
 #[test]
 fn words_lent_short() {
-    let (mut state, mut answer) = ([5; 16], [5; 4]);
+    let (mut state, mut answer) = ([5; STATE_WORDS - 1], [5; 4]);
     let mut ids = [5];
     let none = std::ptr::NonNull::dangling().as_ptr();
     let number = unsafe {
         exports::wage_open(
+            FORMAT_PFML,
             YEAR,
             MONTH,
             state.as_mut_ptr(),
@@ -184,7 +272,7 @@ fn words_lent_short() {
     };
     assert_eq!(
         (number, state, answer, ids),
-        (72, [5; 16], [72, 0, 5, 5], [5])
+        (72, [5; STATE_WORDS - 1], [72, 0, 5, 5], [5])
     );
 }
 
@@ -242,7 +330,7 @@ fn records_built() {
     assert_eq!(field_text(b'E', ACCOUNT, &line), b"");
     assert_eq!(line[172..182], [b' '; 10]);
     let mut walk = Walk::new(2, 1);
-    walk.open(YEAR, MONTH).unwrap();
+    walk.open(FORMAT_PFML, YEAR, MONTH).unwrap();
     let mut a = example("accepted-one-employer.txt");
     a[18..20].copy_from_slice(b"06");
     assert_eq!(walk.line(&a), Ok(291));
@@ -345,7 +433,7 @@ fn files_of_the_reference() {
     for (k, (input, frames)) in given.iter().zip(expected).enumerate() {
         let (quarter, file) = header(input);
         let mut walk = Walk::new(8192, 1024);
-        let _ = walk.whole(quarter / 100, quarter % 100, file);
+        let _ = walk.whole(FORMAT_PFML, quarter / 100, quarter % 100, file);
         assert_eq!(
             String::from_utf8(walk.frames().unwrap()).unwrap(),
             frames,
