@@ -8,7 +8,6 @@ use lib.ListN.{length, getD, take, drop}
 use Rattle.laws.specs.Choice.{if_then_else_}
 use Rattle.laws.specs.Finding.{Reading, value, refused}
 use Rattle.reason.specs.Numbers.{Notice, notice}
-use Rattle.calendar.specs.declared.Quarter.{Quarter}
 use Rattle.lines.specs.Lines.{firstLine}
 use Rattle.chars.specs.Characters.{capitals}
 use Rattle.number.specs.Numbers.{numberIn}

@@ -14,9 +14,9 @@ abbrev pub formatOf : ℕ → Format
 formatOf number = if eqb number 0 then Pfml else Unknown
 
 -- Of none, a number that names none.
-abbrev pub numberOf : Format → ℕ
-numberOf Pfml = 0
-numberOf Unknown = 255
+abbrev pub formatNumber : Format → ℕ
+formatNumber Pfml = 0
+formatNumber Unknown = 255
 
 abbrev pub isKnown : Format → Bool
 isKnown Pfml = true

@@ -2,7 +2,7 @@
 use crate::Opening;
 use calendar::Quarter;
 ghost use mathlib.Core.Path.{_≡_};
-ghost use Rattle.edits.specs.Formats.{formatOf, numberOf, isKnown, mayOpen};
+ghost use Rattle.edits.specs.Formats.{formatOf, formatNumber, isKnown, mayOpen};
 
 // `Unknown` is no format: it is what a number says that names none.
 pub enum Format {
@@ -22,7 +22,7 @@ pub fn format_of(number: u64) -> Format
 
 // The number of a format; of none, one that names none.
 pub fn number_of(format: Format) -> u64
-    ensures { λ r. ⌜ r ≡ numberOf format ⌝ }
+    ensures { λ r. ⌜ r ≡ formatNumber format ⌝ }
 {
     match format {
         Format::Pfml => 0,

@@ -5,14 +5,12 @@ use mathlib.Core.List.{List, _++_, append-assoc}
 use mathlib.Core.Option.{some}
 use mathlib.Core.Path.{_≡_, refl, ap, _∙_}
 use native.Mathlib.Omega.{arith}
-use lib.Dec.{eqb}
 use lib.ListN.{length, drop}
 use borrow.Author.Tests.{not-false}
-use Rattle.laws.specs.Choice.{if_then_else_}
 use Rattle.reason.specs.Numbers.{isListed}
 use Rattle.reason.specs.Once.{number-listed}
 use Rattle.tables.specs.Room.{Room}
-use Rattle.edits.specs.Formats.{formatOf, numberOf}
+use Rattle.edits.specs.Formats.{formatOf, formatNumber}
 use Rattle.edits.specs.declared.Phase.the-variants.{BeforeA, AfterA, EOpen, AfterT, AfterF}
 use Rattle.edits.specs.declared.format.Format.{Format}
 use Rattle.edits.specs.declared.format.Format.the-variants.{Pfml, Unknown as NoFormat}
@@ -32,7 +30,7 @@ flag-back : (flag : Bool) → flagIn (flagWord flag) ≡ flag
 flag-back true = refl
 flag-back false = refl
 
-format-back : (format : Format) → formatOf (numberOf format) ≡ format
+format-back : (format : Format) → formatOf (formatNumber format) ≡ format
 format-back Pfml = refl
 format-back NoFormat = refl
 

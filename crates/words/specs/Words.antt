@@ -7,7 +7,7 @@ use lib.Dec.{ltb, eqb}
 use lib.ListN.{length, getD, drop}
 use Rattle.laws.specs.Choice.{if_then_else_}
 use Rattle.reason.specs.Numbers.{isListed, notice}
-use Rattle.edits.specs.Formats.{formatOf, numberOf}
+use Rattle.edits.specs.Formats.{formatOf, formatNumber}
 use Rattle.edits.specs.declared.Open.{Open}
 use Rattle.edits.specs.declared.Phase.the-variants.{BeforeA, AfterA, EOpen, AfterT, AfterF}
 use Rattle.edits.specs.declared.Totals.{Totals}
@@ -45,7 +45,7 @@ numberWords walk =
     ∷ walk .open .fein ∷ flagWord (walk .open .follow) ∷ walk .open .count ∷ walk .open .sum
     ∷ walk .all .count ∷ walk .all .employers ∷ walk .all .sum
     ∷ walk .used
-    ∷ numberOf (walk .held .format)
+    ∷ formatNumber (walk .held .format)
     ∷ walk .open .second ∷ walk .open .others ∷ walk .open .nearest ∷ flagWord (walk .open .noted)
     ∷ walk .open .«account_head» ∷ walk .open .«account_tail»
     ∷ walk .all .second ∷ walk .all .others ∷ walk .all .notes ∷ []
