@@ -18,6 +18,7 @@ abbrev pub formatNumber : Format → ℕ
 formatNumber Pfml = 0
 formatNumber Unknown = 255
 
+-- Whether it is a format.
 abbrev pub isKnown : Format → Bool
 isKnown Pfml = true
 isKnown Unknown = false

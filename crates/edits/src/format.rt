@@ -30,6 +30,7 @@ pub fn number_of(format: Format) -> u64
     }
 }
 
+// Whether it is a format.
 pub fn is_known(format: Format) -> bool
     ensures { λ r. ⌜ r ≡ isKnown format ⌝ }
 {
