@@ -2,7 +2,7 @@
 use crate::Opening;
 use calendar::Quarter;
 ghost use mathlib.Core.Path.{_≡_};
-ghost use Rattle.edits.specs.Formats.{formatOf, formatNumber, isKnown, mayOpen};
+ghost use Rattle.edits.specs.Formats.{formatOf, formatNumber, isKnown, quarterHeld, mayOpen};
 
 // `Unknown` is no format: it is what a number says that names none.
 pub enum Format {
@@ -40,16 +40,22 @@ pub fn is_known(format: Format) -> bool
     }
 }
 
+// The last closed quarter that a walk was opened with.
+pub fn quarter_held(held: Opening) -> Quarter
+    ensures { λ r. ⌜ r ≡ quarterHeld held ⌝ }
+{
+    Quarter {
+        year: held.year,
+        month: held.month,
+    }
+}
+
 // Whether a walk may be opened so: the quarter is one that the paper allows, and the format is known.
 pub fn may_open(held: Opening) -> bool
     ensures { λ r. ⌜ r ≡ mayOpen held ⌝ }
 {
-    let closed = Quarter {
-        year: held.year,
-        month: held.month,
-    };
     let format = held.format;
-    if calendar::is_allowed(closed) {
+    if calendar::is_allowed(quarter_held(held)) {
         return is_known(format);
     }
     false

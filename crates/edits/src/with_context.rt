@@ -3,6 +3,7 @@ use crate::Context;
 use crate::Marks;
 use crate::Rule;
 use crate::Seen;
+use crate::format;
 use crate::own;
 use calendar::Quarter;
 use calendar::Timing;
@@ -115,11 +116,7 @@ fn rule_edit(
 ) -> Edit
     ensures { λ r. ⌜ findingOf r ≡ firstBroken (ruleEdits rule marks around seen (capitals (now (line .entry))) first v) ⌝ }
 {
-    let opened = around.held;
-    let held = Quarter {
-        year: opened.year,
-        month: opened.month,
-    };
+    let held = format::quarter_held(around.held);
     let filed = around.filed;
     let open = around.open;
     let all = around.all;

@@ -121,12 +121,8 @@ fn is_left(format: Format, number: u8) -> bool
 fn quarters_unfit(held: Opening, filed: Quarter) -> bool
     ensures { λ r. ⌜ r ≡ bothUnfit held filed ⌝ }
 {
-    let closed = Quarter {
-        year: held.year,
-        month: held.month,
-    };
     if format::may_open(held) {
-        return !calendar::is_reportable(closed, filed);
+        return !calendar::is_reportable(format::quarter_held(held), filed);
     }
     true
 }

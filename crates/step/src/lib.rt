@@ -2,7 +2,6 @@
 pub mod line;
 mod reading;
 
-use calendar::Quarter;
 use edits::Opening;
 use edits::Phase;
 use edits::format;
@@ -177,11 +176,7 @@ pub fn end_move(st: State, ids: usize, list: usize) -> Move
 fn opening_reason(held: Opening) -> Reason
     ensures { λ r. ⌜ numberOf r ≡ openingNumber held ⌝ }
 {
-    let closed = Quarter {
-        year: held.year,
-        month: held.month,
-    };
-    if calendar::is_allowed(closed) {
+    if calendar::is_allowed(format::quarter_held(held)) {
         return Reason::UnknownFormat;
     }
     Reason::BadQuarter

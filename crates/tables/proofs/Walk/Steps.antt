@@ -42,7 +42,7 @@ pub record Field : Type 0 where
   pub stands : fieldAt zero parts number ≡ some (type, at)
 
 -- So many 64-bit numbers, and one of them.
-abbrev words : ℕ → Tys
+abbrev pub words : ℕ → Tys
 words zero = tnil
 words (suc n) = tcons (tyInt w64) (words n)
 

@@ -1,6 +1,7 @@
 -- `tables::list::has_fein` meets its contract: a walk of its MIR, by hand. What is found is what is among the FEINs looked at, and each turn looks at one more.
 use mathlib.Core.Path.{_≡_, refl, sym, _∙_, ap, subst}
 use Prim.Native.Nat.{ℕ, _+_, _-_, _≤_, _<_, _^_, min}
+use mir.Syntax.{tyInt}
 use native.Mathlib.Nat.{le-antisymm}
 use native.Mathlib.Omega.{arith}
 use mathlib.Core.Bool.{Bool, _||_}
@@ -17,7 +18,7 @@ use Rattle.tables.proofs.Employer.Laws as T′
 use Rattle.tables.proofs.Called.{lesser}
 use Rattle.tables.proofs.Entries.{sliceOf, Shared, scaled, looks-entry, shuts-entry, points}
 use Rattle.tables.proofs.Walk.{URA, Heap, Atoms, Given, Memory, Routine, Fun, SProp, Lft, Share, Env, Tables, Item, Val, RefT, Room, Sq, Triple, Places}
-use Rattle.tables.proofs.Walk.{Ends, gone, Exit, finishes, proves, locals, envOf, lets-go, lose, var, counts, refers, sets, resets, receives, tests, Asked, made, asks}
+use Rattle.tables.proofs.Walk.{Ends, gone, Exit, finishes, proves, locals, envOf, lets-go, lose, var, counts, refers, sets, resets, receives, tests, Asked, made, asks, words}
 use Rattle.tables.proofs.Walk.{Nearer, nearer-wf, Turned, none, some, fullShare, named, w64, tyBool, vbool, vint, fat, flft, spotOf, afterTurn, givenOf, tables}
 use Rattle.tables.proofs.Walk.{tablesOf, fmOf, runs, atRet, anyQ, ‵, _$_, !, by, rewrite, look, store, forget, stop, hop, fld, from, load, lit, false-lit}
 use Rattle.tables.proofs.Walk.{of-opd, bin, and-then, no-more, assigns-last, first, blocks, loops, again, exec, returns, whole, sub, look-in, uint-vals}
@@ -82,7 +83,7 @@ module _ {M : Type 1} (𝓤 : URA M) (H : Heap 𝓤) (A : Atoms 𝓤) (W : Given
         points ! (x .ptr .0) (x .ptr .1) (k .0) (refers ! 22 refl refl) (var ! 6 refl) 4 refl tt $
         looks-entry ! tt x (sliceOf x ∷ []) (k .0) within (λ q′ is.
         -- [the entry; what it owns; the others; the open borrow; the list; _11 at 5; _10 at 7; …; _8 at 11; …; _3 at 21; …]
-        sets ! (of-opd ! (load ! (from ! (hop ! (look ! 7 refl) (fld ! refl (stop !)))) (look-in ! 0 (sub ! 0 refl (whole !))))) 5 refl (tt, record { fits = LL.owed T.the-type T′.the-laws (getD ys (k .0) noEmployer) _ is .0 .1 }) $
+        sets ! (of-opd ! (load ! (from ! (hop ! (look ! 7 refl) (fld ! refl (stop !)))) (look-in ! 0 (sub ! {τs = words 3} 0 {τ = tyInt w64} {d = 0} refl (whole !))))) 5 refl (tt, record { fits = LL.owed T.the-type T′.the-laws (getD ys (k .0) noEmployer) _ is .0 .1 }) $
         resets ! (bin ! (var ! 5 refl) (var ! 21 refl) tt) 11 refl (tt, tt) $ shuts-entry ! tt x (k .0) q′ within $
         resets ! (bin ! (var ! 14 refl) (var ! 8 refl) tt) 14 refl (tt, tt) $ rewrite ! 14 (λ (b : Bool). ‵ (fat fullShare tyBool (spotOf 𝓤 H En 5 .1) 0 (vbool b))) (found-more (k .0) within) refl $
         assigns-last ! (bin ! (var ! 12 refl) (lit ! tt) (record { fits = next })) (from ! (stop !)) (store ! 12 refl (tt, record { fits = next })) $
