@@ -34,7 +34,7 @@ use Rattle.ack.proofs.turn as turn-fn
 module _ {M : Type 1} {𝓤 : URA M} {H : Heap 𝓤} {A : Atoms 𝓤} (W : Given 𝓤 H A) (mem : Memory → SProp 𝓤) (run : Routine → Fun 𝓤) where
   -- ---- what decides
   abbrev pub header : Callee W
-  header = total W header-fn.ended (header-fn.clauses 𝓤 H A mem run) (λ κs a g. id⊢ 𝓤 (emp 𝓤)) (λ κs a g r ws. r ≡ headerOpening (a .0 .now)) (λ κs a g r ws. refl) (λ κs. LL.val O.the-type O′.the-laws) (λ κs. LL.tells O.the-type O′.the-laws)
+  header = total W header-fn.ended (header-fn.clauses 𝓤 H A mem run) (λ κs a g. id⊢ 𝓤 (emp 𝓤)) (λ κs a g r ws. r ≡ headerOpening (a .0) (a .1 .0 .now)) (λ κs a g r ws. refl) (λ κs. LL.val O.the-type O′.the-laws) (λ κs. LL.tells O.the-type O′.the-laws)
 
   abbrev pub takes-line : Callee W
   takes-line = total W takes-line-fn.ended (takes-line-fn.clauses 𝓤 H A mem run) (λ κs a g. id⊢ 𝓤 (emp 𝓤)) (λ κs a g r ws. r ≡ takesLine (a .0) (a .1 .0)) (λ κs a g r ws. refl) (λ κs. vbool) (λ κs. bool-tells)
@@ -72,6 +72,6 @@ module _ {M : Type 1} {𝓤 : URA M} {H : Heap 𝓤} {A : Atoms 𝓤} (W : Given
 
   abbrev pub turn : Callee W
   turn = total W turn-fn.ended (turn-fn.clauses 𝓤 H A mem run) (λ κs a g. id⊢ 𝓤 (emp 𝓤))
-      (λ κs a g r ws. let held = a .1 .0 .now in
-      (turnedBy r held (tables (ws .1 .1 .1 .0) (ws .1 .1 .1 .1 .0)) ≡ turnOf (progressOf (a .0)) (a .1 .1 .0) held (tables (a .1 .1 .1 .0 .now) (a .1 .1 .1 .1 .0 .now))) × (r .taken ≤ length held))
+      (λ κs a g r ws. let held = a .1 .1 .0 .now in
+      (turnedBy r held (tables (ws .1 .1 .1 .1 .0) (ws .1 .1 .1 .1 .1 .0)) ≡ turnOf (a .0) (progressOf (a .1 .0)) (a .1 .1 .1 .0) held (tables (a .1 .1 .1 .1 .0 .now) (a .1 .1 .1 .1 .1 .0 .now))) × (r .taken ≤ length held))
       (λ κs a g r ws. refl) (λ κs. LL.val N.the-type N′.the-laws) (λ κs. LL.tells N.the-type N′.the-laws)

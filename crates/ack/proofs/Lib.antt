@@ -1,4 +1,3 @@
 pub mod Called
 pub mod Lent
-pub mod Programs
 pub mod Values

@@ -4,6 +4,9 @@ use mir.Syntax.{Tys, tcons, tnil, tyInt}
 use prog.Memory.{up, align}
 use denote.Enum.Laws as EL
 use denote.Struct.Laws as LL
+use Rattle.edits.specs.declared.format.Format.{Format}
+use Rattle.edits.proofs.format.Format as Fo
+use Rattle.edits.proofs.format.Format.Laws as Fo′
 use Rattle.tables.proofs.Walk.{Field, Val, tyBool, w64}
 use Rattle.state.proofs.State.Laws as S′
 use Rattle.ack.specs.declared.Place.{Place}
@@ -18,6 +21,9 @@ use Rattle.ack.proofs.Start as B
 use Rattle.ack.proofs.Start.Laws as B′
 use Rattle.ack.proofs.Turned as N
 use Rattle.ack.proofs.Turned.Laws as N′
+
+abbrev pub format-val : Format → Val
+format-val = EL.val Fo.the-type Fo′.the-laws
 
 abbrev pub place-val : Place → Val
 place-val = LL.val P.the-type P′.the-laws

@@ -6,6 +6,7 @@ use Rattle.laws.specs.Choice.{if_then_else_}
 use Rattle.tables.specs.Room.{Room}
 use Rattle.edits.specs.Formats.{mayOpen}
 use Rattle.edits.specs.declared.Opening.{Opening}
+use Rattle.edits.specs.declared.format.Format.{Format}
 use Rattle.meaning.specs.Meaning.{meaning}
 use Rattle.step.specs.Moves.{openingNotice}
 use Rattle.frames.specs.Frames.{refusalFrame, framesOf}
@@ -20,5 +21,5 @@ abbrev pub fileFrames : Opening → List ℕ → List ℕ
 fileFrames held file = if mayOpen held then framesOf (meaning programRoom held file) else refusalFrame (openingNotice held)
 
 -- "Input: six digits YYYYMM of the last closed quarter and LF (else 70; not counted as a line), then the file."
-abbrev pub acknowledgement : List ℕ → List ℕ
-acknowledgement input = fileFrames (headerOpening input) (drop headerSize input)
+abbrev pub acknowledgement : Format → List ℕ → List ℕ
+acknowledgement format input = fileFrames (headerOpening format input) (drop headerSize input)

@@ -3,7 +3,6 @@ pub mod Answers
 pub mod Places
 pub mod Starts
 pub mod TurnLaws
-pub mod RunLaws
 pub mod Program
 pub mod ProgramLaws
 pub mod Acknowledgement

@@ -7,9 +7,10 @@ use native.Mathlib.Omega.{arith}
 use lib.ListN.{length, drop}
 use Rattle.reason.specs.Numbers.{Notice}
 use Rattle.calendar.specs.Quarters.{isAllowed}
-use Rattle.edits.specs.FormatLaws.{opens-pfml}
-use Rattle.edits.specs.Formats.{mayOpen}
+use Rattle.calendar.specs.declared.Quarter.{Quarter}
+use Rattle.edits.specs.Formats.{isKnown, openingWith, mayOpen}
 use Rattle.edits.specs.declared.Opening.{Opening}
+use Rattle.edits.specs.declared.format.Format.{Format}
 use Rattle.meaning.specs.Employers.{employers-are}
 use Rattle.meaning.specs.Forward.{recordsOf, employersOf, totalsOf}
 use Rattle.meaning.specs.Meaning.{LineEdit, fileEdits, Outcome, accepted, refused, meaning}
@@ -59,11 +60,16 @@ module _ (held : Opening) (file : List ℕ) where
         otherwise-refused = λ otherwise. record { says = says; frame = refl; first = first-is-first programRoom held file says e };
       }
 
--- The acknowledgement of every input whose header gives a quarter that may be the last closed one says of its file what the manual says.
-pub acknowledged-as-in-manual : (input : List ℕ) → isAllowed (headerQuarter input) ≡ true
-    → ToldAsInManual (fileEdits programRoom (headerOpening input) (drop headerSize input)) (drop headerSize input) (acknowledgement input)
-acknowledged-as-in-manual input allowed =
-    rw (opens-pfml (headerQuarter input) allowed) (by-outcome (headerOpening input) (drop headerSize input) (meaning programRoom (headerOpening input) (drop headerSize input)) refl)
+opens : (format : Format) (quarter : Quarter) → isKnown format ≡ true → isAllowed quarter ≡ true → mayOpen (openingWith format quarter) ≡ true
+unfolding mayOpen
+opens format quarter known allowed = rw (allowed, known)
+
+-- The acknowledgement of every input whose header gives a quarter that may be the last closed one says of its file what the manual says, in every format.
+pub acknowledged-as-in-manual : (format : Format) (input : List ℕ) → isKnown format ≡ true → isAllowed (headerQuarter input) ≡ true
+    → ToldAsInManual (fileEdits programRoom (headerOpening format input) (drop headerSize input)) (drop headerSize input) (acknowledgement format input)
+acknowledged-as-in-manual format input known allowed =
+    rw (opens format (headerQuarter input) known allowed)
+    (by-outcome (headerOpening format input) (drop headerSize input) (meaning programRoom (headerOpening format input) (drop headerSize input)) refl)
 
 -- ---- "So no output exceeds 35 bytes for each employer and 35 more."
 outcome-bound : (held : Opening) (file : List ℕ) (outcome : Outcome) → meaning programRoom held file ≡ outcome
@@ -78,5 +84,5 @@ file-bound held file true e = rw e (outcome-bound held file (meaning programRoom
 file-bound held file false e = rw (e, refusal-length (openingNotice held)) (omega arith)
 
 -- Of every input, whatever it is: the employers are the E records of the file behind its header.
-pub acknowledgement-bound : (input : List ℕ) → length (acknowledgement input) ≤ 35 * length (employersOf (recordsOf (drop headerSize input))) + 35
-acknowledgement-bound input = file-bound (headerOpening input) (drop headerSize input) (mayOpen (headerOpening input)) refl
+pub acknowledgement-bound : (format : Format) (input : List ℕ) → length (acknowledgement format input) ≤ 35 * length (employersOf (recordsOf (drop headerSize input))) + 35
+acknowledgement-bound format input = file-bound (headerOpening format input) (drop headerSize input) (mayOpen (headerOpening format input)) refl

@@ -42,8 +42,8 @@ use Rattle.ack.specs.ProgramLaws.{turns-wait}
 use Rattle.ack.specs.Turns.{Progress, waiting, walking, finished, ends, headerOpening}
 
 -- The turns end as the whole file does.
-whole-end : (reads : List (List ℕ)) (t : Tables) → turns waiting [] reads t ≡ ends (wholeFile (headerOpening (input reads)) (drop 7 (input reads)) t)
-whole-end reads t = turns-wait reads [] t ∙ ap ends (whole-means (headerOpening (input reads)) (drop 7 (input reads)) t)
+whole-end : (format : Format) (reads : List (List ℕ)) (t : Tables) → turns format waiting [] reads t ≡ ends (wholeFile (headerOpening format (input reads)) (drop 7 (input reads)) t)
+whole-end format reads t = turns-wait format reads [] t ∙ ap ends (whole-means (headerOpening format (input reads)) (drop 7 (input reads)) t)
 
 -- The buffer that holds the frames of 1,024 employers: "35 bytes for each employer and 35 more".
 abbrev pub enough : ℕ
@@ -112,8 +112,8 @@ turnFrames waiting t out = untouched 87 out
 turnFrames (walking walk) t out = framing walk (t .list) out
 turnFrames (finished walk) t out = framing walk (t .list) out
 
--- For every way of cutting the input into reads, the turns end, and the frames written are the acknowledgement of all that was read.
-pub program-means : (reads : List (List ℕ)) (t : Tables) → roomOf t ≡ programRoom → (out : List ℕ) → enough ≤ length out
-    → turnFrames (turns waiting [] reads t .progress) (turns waiting [] reads t .tables) out
-    ≡ record { says = written (length (acknowledgement (input reads))); out = acknowledgement (input reads) ++ drop (length (acknowledgement (input reads))) out }
-program-means reads t room out h = rw (whole-end reads t) (file-written (headerOpening (input reads)) (drop 7 (input reads)) t room out h)
+-- For every format and every way of cutting the input into reads, the turns end, and the frames written are the acknowledgement of all that was read.
+pub program-means : (format : Format) (reads : List (List ℕ)) (t : Tables) → roomOf t ≡ programRoom → (out : List ℕ) → enough ≤ length out
+    → turnFrames (turns format waiting [] reads t .progress) (turns format waiting [] reads t .tables) out
+    ≡ record { says = written (length (acknowledgement format (input reads))); out = acknowledgement format (input reads) ++ drop (length (acknowledgement format (input reads))) out }
+program-means format reads t room out h = rw (whole-end format reads t) (file-written (headerOpening format (input reads)) (drop 7 (input reads)) t room out h)

@@ -11,16 +11,16 @@ use lib.Seq.{drop-drop, drop-length}
 use borrow.Author.Tests.{ltb-true, ltb-false, eqb-false}
 use Rattle.laws.specs.Choice.{if_then_else_, both-hold}
 use Rattle.laws.specs.Lists.{behind}
-use Rattle.lines.specs.Lines.{firstLine}
 use Rattle.tables.specs.Room.{Tables}
 use Rattle.tables.specs.Steps.{drop-least}
 use Rattle.state.specs.Walks.{Walk, walkOf}
 use Rattle.state.specs.declared.State.{State}
-use Rattle.step.specs.Steps.{Out, outOf, lineStep, endStep}
+use Rattle.step.specs.Steps.{Out, outOf, endStep}
 use Rattle.step.specs.declared.Answer.{Answer}
+use Rattle.walk.specs.Runs.{linesStep}
 use Rattle.ack.specs.Answers.{turnedBy}
 use Rattle.ack.specs.Places.{takesLine, placeBehind}
-use Rattle.ack.specs.Turns.{Turn, ends, goesOn, linesTurn}
+use Rattle.ack.specs.Turns.{Turn, ends, goesOn, longestLine, linesTurn}
 use Rattle.ack.specs.declared.Place.{Place}
 use Rattle.ack.specs.declared.Progress.the-variants.{Walking, Finished}
 use Rattle.ack.specs.declared.Turned.{Turned}
@@ -38,12 +38,12 @@ module _ (ended : Bool) where
   turn-none walk t = refl
 
   -- A line that is not whole yet stays.
-  turn-stays : (s : List ℕ) → 0 < length s → ended || leb 292 (length s) ≡ false → (walk : Walk) (t : Tables) → linesTurn ended 0 s walk t ≡ goesOn walk t s
+  turn-stays : (s : List ℕ) → 0 < length s → ended || leb longestLine (length s) ≡ false → (walk : Walk) (t : Tables) → linesTurn ended 0 s walk t ≡ goesOn walk t s
   unfolding linesTurn
   turn-stays [] h e walk t = absurd (omega arith)
   turn-stays (b ∷ s) h e walk t = rw e
 
-  -- What a turn makes of the answer of a line.
+  -- What a turn makes of the answer of a call.
   abbrev next : List ℕ → Out → Turn
   next rest o = if eqb (o .taken) 0 then ends (endStep (o .walk) (o .left)) else linesTurn ended (o .taken - 1) rest (o .walk) (o .left)
 
@@ -58,7 +58,7 @@ module _ (ended : Bool) where
         let some = eqb-false (o .taken) 0 n in
         skipped (o .taken - 1) s (o .walk) (o .left) ∙ ap (λ (r : List ℕ). linesTurn ended 0 r (o .walk) (o .left)) (behind (o .taken) b s (omega arith))
 
-  turn-line : (s : List ℕ) → 0 < length s → ended || leb 292 (length s) ≡ true → (walk : Walk) (t : Tables) (o : Out) → o ≡ lineStep walk (firstLine s) t
+  turn-line : (s : List ℕ) → 0 < length s → ended || leb longestLine (length s) ≡ true → (walk : Walk) (t : Tables) (o : Out) → o ≡ linesStep walk s t
       → linesTurn ended 0 s walk t ≡ (if eqb (o .taken) 0 then ends (endStep (o .walk) (o .left)) else linesTurn ended 0 (drop (o .taken) s) (o .walk) (o .left))
   unfolding linesTurn
   turn-line [] h e walk t o same = absurd (omega arith)
@@ -79,7 +79,7 @@ module _ (held : List ℕ) (here : Place) (walk : Walk) (t : Tables) where
   -- The loop stops at the end of the bytes, if behind them comes the end call,
   pub loop-ends : takesLine here (length held) ≡ false → here .last ≡ true → turnFrom held here walk t ≡ ends (endStep walk t)
   loop-ends e last = turn-over (here .last) held (here .at) (ltb-false (here .at) (length held) (over (ltb (here .at) (length held)) e)) walk t ∙ rw last where
-    over : (more : Bool) → more && (here .last || leb 292 (length held - here .at)) ≡ false → more ≡ false
+    over : (more : Bool) → more && (here .last || leb longestLine (length held - here .at)) ≡ false → more ≡ false
     over true none = rw last at none
     over false none = refl
 
@@ -92,14 +92,14 @@ module _ (held : List ℕ) (here : Place) (walk : Walk) (t : Tables) where
         let h = ltb-false (here .at) (length held) is in
         turn-over (here .last) held (here .at) h walk t ∙ rw (last, drop-of-length-le held {i = here .at} h)
 
-  taking : takesLine here (length held) ≡ true → (ltb (here .at) (length held) ≡ true) × (here .last || leb 292 (length held - here .at) ≡ true)
-  taking e = both-hold (ltb (here .at) (length held)) (here .last || leb 292 (length held - here .at)) e
+  taking : takesLine here (length held) ≡ true → (ltb (here .at) (length held) ≡ true) × (here .last || leb longestLine (length held - here .at) ≡ true)
+  taking e = both-hold (ltb (here .at) (length held)) (here .last || leb longestLine (length held - here .at)) e
 
   pub takes-within : takesLine here (length held) ≡ true → here .at < length held
   takes-within e = ltb-true (here .at) (length held) (taking e .0)
 
-  -- A line goes on from behind it.
-  module _ (o : Out) (e : takesLine here (length held) ≡ true) (same : o ≡ lineStep walk (firstLine (drop (here .at) held)) t) where
+  -- Behind the lines that a call took the turn goes on.
+  module _ (o : Out) (e : takesLine here (length held) ≡ true) (same : o ≡ linesStep walk (drop (here .at) held) t) where
     takes : turnFrom held here walk t ≡ (if eqb (o .taken) 0 then ends (endStep (o .walk) (o .left)) else linesTurn (here .last) 0 (drop (o .taken) (drop (here .at) held)) (o .walk) (o .left))
     takes = turn-line (here .last) (drop (here .at) held) (some-left (takes-within e)) (rw (length-drop (here .at) held) (taking e .1)) walk t o same
 

@@ -8,14 +8,14 @@ use Rattle.laws.specs.Choice.{if_then_else_}
 use Rattle.laws.specs.Finding.{Reading, value, refused}
 use Rattle.calendar.specs.declared.Quarter.{Quarter}
 use Rattle.number.specs.Numbers.{numberIn}
-use Rattle.lines.specs.Lines.{firstLine}
 use Rattle.tables.specs.Room.{Tables}
 use Rattle.edits.specs.Formats.{openingWith}
 use Rattle.edits.specs.declared.Opening.{Opening}
-use Rattle.edits.specs.declared.format.Format.the-variants.{Pfml}
+use Rattle.edits.specs.declared.format.Format.{Format}
 use Rattle.meaning.specs.Before.{noQuarter}
 use Rattle.state.specs.Walks.{Walk}
-use Rattle.step.specs.Steps.{Out, openStep, lineStep, endStep}
+use Rattle.step.specs.Steps.{Out, openStep, endStep}
+use Rattle.walk.specs.Runs.{linesStep}
 
 -- "Input: six digits YYYYMM of the last closed quarter and LF (else 70; not counted as a line), then the file." What is no header is read as no quarter, which
 -- the opening refuses with 70.
@@ -32,9 +32,13 @@ quarterBy (refused column number) ends = noQuarter
 unfoldable pub headerQuarter : List ℕ → Quarter
 headerQuarter input = quarterBy (numberIn input 1 6) (eqb (getD input 6 0) 10)
 
--- The program's files are of PFML.
-abbrev pub headerOpening : List ℕ → Opening
-headerOpening input = openingWith Pfml (headerQuarter input)
+-- The header tells the quarter; the format is the program's.
+abbrev pub headerOpening : Format → List ℕ → Opening
+headerOpening format input = openingWith format (headerQuarter input)
+
+-- So many bytes show a line whole, whatever its format: the longest record of any format has 512 characters, and the longest line end 2.
+abbrev pub longestLine : ℕ
+longestLine = 514
 
 -- Where a program stands between two reads: before the header; within the file; or finished, with the end call's answer.
 pub data Progress : Type 0 where
@@ -54,26 +58,26 @@ ends o = record { progress = finished (o .walk); left = []; tables = o .left }
 abbrev pub goesOn : Walk → Tables → List ℕ → Turn
 goesOn walk t left = record { progress = walking walk; left = left; tables = t }
 
--- Lines are taken while at least 292 bytes are there, or the input has ended; then, or after a refusal, comes the end call. `skip` bytes still belong
--- to the line taken last.
+-- Lines are taken while the longest line would be there whole, or the input has ended; then, or after a refusal, comes the end call. A call takes a line and
+-- the plain S records right behind it (`linesStep`), as a call for each of them would. `skip` bytes still belong to the lines taken last.
 unfoldable pub linesTurn : Bool → ℕ → List ℕ → Walk → Tables → Turn
 linesTurn ended skip [] walk t = if ended then ends (endStep walk t) else goesOn walk t []
 linesTurn ended (suc skip) (b ∷ rest) walk t = linesTurn ended skip rest walk t
 linesTurn ended zero (b ∷ rest) walk t =
-    if ended || leb 292 (length (b ∷ rest))
-    then (let o = lineStep walk (firstLine (b ∷ rest)) t in
+    if ended || leb longestLine (length (b ∷ rest))
+    then (let o = linesStep walk (b ∷ rest) t in
     if eqb (o .taken) 0 then ends (endStep (o .walk) (o .left)) else linesTurn ended (o .taken - 1) rest (o .walk) (o .left))
     else goesOn walk t (b ∷ rest)
 
 -- The header is read as soon as its bytes are there, or the input has ended.
-abbrev pub headerTurn : Bool → List ℕ → Tables → Turn
-headerTurn ended held t =
+abbrev pub headerTurn : Format → Bool → List ℕ → Tables → Turn
+headerTurn format ended held t =
     if ended || leb headerSize (length held)
-    then linesTurn ended 0 (drop headerSize held) (openStep (headerOpening held) t .walk) (openStep (headerOpening held) t .left)
+    then linesTurn ended 0 (drop headerSize held) (openStep (headerOpening format held) t .walk) (openStep (headerOpening format held) t .left)
     else record { progress = waiting; left = held; tables = t }
 
--- One turn on the bytes held.
-unfoldable pub turn : Progress → Bool → List ℕ → Tables → Turn
-turn waiting ended held t = headerTurn ended held t
-turn (walking walk) ended held t = linesTurn ended 0 held walk t
-turn (finished walk) ended held t = record { progress = finished walk; left = []; tables = t }
+-- One turn on the bytes held, of an input in this format.
+unfoldable pub turn : Format → Progress → Bool → List ℕ → Tables → Turn
+turn format waiting ended held t = headerTurn format ended held t
+turn format (walking walk) ended held t = linesTurn ended 0 held walk t
+turn format (finished walk) ended held t = record { progress = finished walk; left = []; tables = t }

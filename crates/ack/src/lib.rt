@@ -14,7 +14,7 @@ ghost use lib.ListN.{length, drop};
 ghost use Rattle.tables.specs.Room.{tables as tablesOf};
 ghost use Rattle.state.specs.Walks.{walkOf};
 ghost use Rattle.step.specs.Moves.{takenIn};
-ghost use Rattle.ack.specs.Turns.{headerQuarter, headerOpening, linesTurn, turn as turnOf};
+ghost use Rattle.ack.specs.Turns.{longestLine, headerQuarter, headerOpening, linesTurn, turn as turnOf};
 ghost use Rattle.ack.specs.Answers.{progressOf, turnedBy};
 ghost use Rattle.ack.specs.Starts.{starting, startingOf};
 ghost use Rattle.ack.specs.Places.{takesLine, placeBehind};
@@ -54,26 +54,29 @@ fn header_quarter(bytes: &[u8]) -> Quarter
     }
 }
 
-// What the header opens the walk with: the format is PFML.
-pub fn header(bytes: &[u8]) -> Opening
-    ensures { λ r. ⌜ r ≡ headerOpening (now (bytes .entry)) ⌝ }
+// What the header opens a walk of this format with.
+pub fn header(format: Format, bytes: &[u8]) -> Opening
+    ensures { λ r. ⌜ r ≡ headerOpening format (now (bytes .entry)) ⌝ }
 {
     let q = header_quarter(bytes);
     Opening {
-        format: Format::Pfml,
+        format,
         year: q.year,
         month: q.month,
     }
 }
 
-// Whether a line may be taken: 292 bytes are held, or no more will come.
+// So many bytes show a line whole, whatever its format: the longest record of any format has 512 characters, and the longest line end 2.
+const LONGEST_LINE: usize = 514;
+
+// Whether a line may be taken: the longest would be held whole, or no more will come.
 fn is_whole(ended: bool, held: usize) -> bool
-    ensures { λ r. ⌜ r ≡ (ended || leb 292 held) ⌝ }
+    ensures { λ r. ⌜ r ≡ (ended || leb longestLine held) ⌝ }
 {
     if ended {
         return true;
     }
-    292 <= held
+    LONGEST_LINE <= held
 }
 
 fn has_header(ended: bool, held: usize) -> bool
@@ -137,8 +140,8 @@ fn walking(st: State, at: usize, held: usize) -> Turned
     }
 }
 
-// Takes lines from a place on while at least 292 bytes remain, or the input has ended; then, or after a refusal, makes the end call. A place past the
-// end is the end.
+// Takes lines from a place on while the longest line would be held whole, or the input has ended; then, or after a refusal, makes the end call. A place
+// past the end is the end.
 fn lines_turn(
     opened: State,
     bytes: &[u8],
@@ -200,19 +203,20 @@ fn start_of(progress: Progress, ended: bool, held: usize) -> Start
     }
 }
 
-// One turn on the bytes held; `ended`: no more will come.
+// One turn on the bytes held, of an input in this format; `ended`: no more will come.
 pub fn turn(
+    format: Format,
     progress: Progress,
     bytes: &[u8],
     ended: bool,
     ids: &mut [u32],
     list: &mut [Employer],
 ) -> Turned
-    ensures { λ r. ⌜ (turnedBy r (now (bytes .entry)) (tablesOf (now (ids .exit)) (now (list .exit))) ≡ turnOf (progressOf progress) ended (now (bytes .entry)) (tablesOf (now (ids .entry)) (now (list .entry)))) × (r .taken ≤ length (now (bytes .entry))) ⌝ }
+    ensures { λ r. ⌜ (turnedBy r (now (bytes .entry)) (tablesOf (now (ids .exit)) (now (list .exit))) ≡ turnOf format (progressOf progress) ended (now (bytes .entry)) (tablesOf (now (ids .entry)) (now (list .entry)))) × (r .taken ≤ length (now (bytes .entry))) ⌝ }
 {
     let begun = start_of(progress, ended, bytes.len());
     if begun.opens {
-        let opened = walk::open(header(bytes), ids, list);
+        let opened = walk::open(header(format, bytes), ids, list);
         return lines_turn(opened.state, bytes, 7, ended, ids, list);
     }
     if begun.walks {

@@ -11,6 +11,7 @@ use Rattle.lines.specs.Changed.{changed-lines}
 use Rattle.lines.specs.Lines.{linesOf}
 use Rattle.edits.specs.Formats.{mayOpen}
 use Rattle.edits.specs.declared.Opening.{Opening}
+use Rattle.edits.specs.declared.format.Format.{Format}
 use Rattle.edits.specs.declared.Phase.the-variants.{BeforeA, EOpen}
 use Rattle.record.specs.Blot.{blot-keeps}
 use Rattle.record.specs.Employees.{blot}
@@ -78,7 +79,7 @@ module _ (one other : List ℕ) (alike : Alike one other) where
   file-alike held = rw (meaning-alike programRoom held)
 
   -- "the acknowledgement is the same byte for byte": of the program, under any seven bytes of header.
-  pub acknowledgement-alike : (header : List ℕ) → length header ≡ headerSize → acknowledgement (header ++ one) ≡ acknowledgement (header ++ other)
-  acknowledgement-alike header seven = answers one ∙ file-alike (headerOpening header) ∙ sym (answers other) where
-    answers : (file : List ℕ) → acknowledgement (header ++ file) ≡ fileFrames (headerOpening header) file
+  pub acknowledgement-alike : (format : Format) (header : List ℕ) → length header ≡ headerSize → acknowledgement format (header ++ one) ≡ acknowledgement format (header ++ other)
+  acknowledgement-alike format header seven = answers one ∙ file-alike (headerOpening format header) ∙ sym (answers other) where
+    answers : (file : List ℕ) → acknowledgement format (header ++ file) ≡ fileFrames (headerOpening format header) file
     answers file = rw (← header-held header file (le-of-eq (sym seven)), drop-at header file 7 seven)

@@ -11,6 +11,7 @@ use Rattle.lines.specs.HiddenLaws.{equal-changed, changed-equal}
 use Rattle.lines.specs.Lines.{Line, linesOf, joined}
 use Rattle.chars.specs.Characters.{isPermitted}
 use Rattle.edits.specs.declared.Opening.{Opening}
+use Rattle.edits.specs.declared.format.Format.{Format}
 use Rattle.record.specs.Blot.{blot-keeps, blot-hides, permitted-no-end, own-permitted}
 use Rattle.record.specs.Employees.{isEmployee, isPersonal, isOfEmployee, blot}
 use Rattle.tables.specs.Room.{Tables}
@@ -69,5 +70,5 @@ module _ (one other : List ℕ) where
         → walked lend held one t ≡ walked lend' held other t
     nothing-of-the-employee-as-ordered = nothing-of-the-employee one other (ordered-alike ordered)
 
-    pub acknowledgement-as-ordered : (header : List ℕ) → length header ≡ headerSize → acknowledgement (header ++ one) ≡ acknowledgement (header ++ other)
+    pub acknowledgement-as-ordered : (format : Format) (header : List ℕ) → length header ≡ headerSize → acknowledgement format (header ++ one) ≡ acknowledgement format (header ++ other)
     acknowledgement-as-ordered = acknowledgement-alike one other (ordered-alike ordered)

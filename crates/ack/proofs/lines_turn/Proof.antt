@@ -36,8 +36,7 @@ use Rattle.walk.proofs.end.Symbol.{name as #end, routine as end-routine}
 use Rattle.walk.proofs.end.Met as end-met
 use Rattle.ack.specs.Answers.{turnedBy}
 use Rattle.ack.specs.Places.{takesLine}
-use Rattle.ack.specs.RunLaws.{run-next}
-use Rattle.ack.specs.TurnLaws.{turnFrom, takes-within, loop-ends, loop-stays, turned-ends, turned-stays}
+use Rattle.ack.specs.TurnLaws.{turnFrom, takes-within, loop-ends, loop-stays, loop-next, turned-ends, turned-stays}
 use Rattle.ack.specs.Turns.{Turn}
 use Rattle.ack.specs.declared.Place.{Place}
 use Rattle.ack.specs.declared.Turned.{Turned}
@@ -201,7 +200,7 @@ module _ {M : Type 1} (𝓤 : URA M) (H : Heap 𝓤) (A : Atoms 𝓤) (W : Given
         st-ok = fields .1 .0;
         xs-same = same₁ ∙ k .xs-same;
         ys-same = same₂ ∙ k .ys-same;
-        says = ap (λ (p : Place). turnFrom bytes p (walkOf (r .state)) (tablesOf′ xs′ ys′)) goes ∙ sym (run-next bytes (k .here) (walkOf (k .st)) t o takes said) ∙ k .says;
+        says = ap (λ (p : Place). turnFrom bytes p (walkOf (r .state)) (tablesOf′ xs′ ys′)) goes ∙ sym (loop-next bytes (k .here) (walkOf (k .st)) t o takes said) ∙ k .says;
       }) (omega (arith, above, inside)))))))
       (λ over. exec ! (𝓣 .C) (𝓣 .Λ) En mirs.t-4 (atRet En Post) $ forget ! 28 refl $ forget ! 30 refl $ closes k (sym tells ∙ is-false more over)))
 

@@ -1,4 +1,4 @@
--- What the walks of the programs share. A program has a token and what is owned of each of four `&mut` slices: the buffer, the two tables and the room for
+-- What the walks of this crate share. A program has a token and what is owned of each of four `&mut` slices: the buffer, the two tables and the room for
 -- frames. Each call is lent some of them and gives them back.
 --     Lent, Slices, Having         the slices; what they hold, each as many elements as it began with; and the entries of a context
 --     with-buf, with-tables, with-frames       some of them hold another list
@@ -33,6 +33,9 @@ use denote.RattleType.{RattleType}
 use denote.Shadow.{shadow}
 use denote.Slice.{at-slice, finally}
 use denote.Struct.Laws as LL
+use Rattle.edits.specs.declared.format.Format.{Format}
+use Rattle.edits.proofs.format.Format as Fo
+use Rattle.edits.proofs.format.Format.Laws as Fo′
 use Rattle.tables.specs.Tables.{noEmployer}
 use Rattle.tables.specs.declared.Employer.{Employer}
 use Rattle.tables.proofs.Employer as T
@@ -49,14 +52,17 @@ use Rattle.frames.proofs.Framed as F
 use Rattle.frames.proofs.Framed.Laws as F′
 use Rattle.frames.proofs.Called.{frames as frames-call}
 use Rattle.frames.proofs.frames.Symbol.{name as #frames}
 use Rattle.ack.specs.declared.Progress.{Progress}
 use Rattle.ack.specs.declared.Turned.{Turned}
 use Rattle.ack.proofs.Progress as P
 use Rattle.ack.proofs.Progress.Laws as P′
 use Rattle.ack.proofs.Turned as U
 use Rattle.ack.proofs.Called.{turn}
-use Rattle.ack.proofs.Values.{progress-val, turned-val}
+use Rattle.ack.proofs.Values.{format-val, progress-val, turned-val}
 use Rattle.ack.proofs.turn.Symbol.{name as #turn}
+use Rattle.program.specs.declared.Telling.{Telling}
+use Rattle.program.proofs.Telling as Te
+use Rattle.program.proofs.Telling.Laws as Te′
 
 abbrev next : Body → Body
 next skip = skip
@@ -73,6 +79,9 @@ next (call f xs d) = skip
 abbrev pub behind : ℕ → Body → Body
 behind zero b = b
 behind (suc n) b = behind n (next b)
+
+abbrev pub telling-val : Telling → Val
+telling-val = EL.val Te.the-type Te′.the-laws
 
 abbrev pub framed-val : Framed → Val
 framed-val = EL.val F.the-type F′.the-laws
@@ -237,23 +246,23 @@ module _ {M : Type 1} {𝓤 : URA M} {H : Heap 𝓤} {A : Atoms 𝓤} {K : Type 
 
 -- ---- the calls of the library. The operands are read where the call has what it is lent: behind eleven entries of a turn, and ten of frames
 module _ {M : Type 1} {𝓤 : URA M} {H : Heap 𝓤} {A : Atoms 𝓤} {K : Type 0} {W : Given 𝓤 H A} (mem : Memory → SProp 𝓤) (run : Routine → Fun 𝓤) {Γ : List (Item 𝓤)} {E : Env 𝓤 H} {C : Calls 𝓤 H} {Λ : Loops 𝓤 H} {q : Post 𝓤 H} {xs : List Operand} {d : Place} {rest : Body} (fm : FmC 𝓤 H (W .laws) C) (L : Lent) (l : Slices L) where
-  pub calls-turn : K → Triple 𝓤 (C #turn) (Asked (turn W mem run)) → (pr : Progress) → Is P.the-row pr (progress-val pr ∷ []) → (n : ℕ) → n ≤ length (l .bs) → (e : Bool)
-      → ((ν₀ ν₁ ν₂ : ℕ) (γ δ₁ δ₂ : GName) → Opds K W (Turn L l Γ n ν₀ ν₁ ν₂ γ δ₁ δ₂) E xs (progress-val pr ∷ sliceVal (L .buf .ptr) n ∷ vbool e ∷ val (L .ids) ∷ val (L .list) ∷ []))
+  pub calls-turn : K → Triple 𝓤 (C #turn) (Asked (turn W mem run)) → (format : Format) → Is Fo.the-row format (format-val format ∷ []) → (pr : Progress) → Is P.the-row pr (progress-val pr ∷ []) → (n : ℕ) → n ≤ length (l .bs) → (e : Bool)
+      → ((ν₀ ν₁ ν₂ : ℕ) (γ δ₁ δ₂ : GName) → Opds K W (Turn L l Γ n ν₀ ν₁ ν₂ γ δ₁ δ₂) E xs (format-val format ∷ progress-val pr ∷ sliceVal (L .buf .ptr) n ∷ vbool e ∷ val (L .ids) ∷ val (L .list) ∷ []))
       → ((u : Turned) → Is U.the-row u (turned-val u ∷ []) → (l′ : Slices L) → Seq K W (Having L l′ Γ) (lands C Λ E d (turned-val u) rest q)) → Seq K W (Having L l Γ) (runs C Λ E (seq (call #turn xs d) rest) q)
-  calls-turn t known pr pr-is n within e os k =
+  calls-turn t known format format-is pr pr-is n within e os k =
       lends-turn t tt L l n within (λ ν₀ ν₁ ν₂ γ δ₁ δ₂ p₀ p₁ p₂.
       asks t (turn W mem run) known fm (
         (
           (ν₀ ∷ [], (ν₁ ∷ [], (ν₂ ∷ [], tt))),
           (fullShare, (fullShare, (fullShare, tt))),
           tt,
-          (pr, (front-of (holding (L .buf) (l .bs)) n γ, (e, (named-as (holding (L .ids) (l .xs)) δ₁, (named-as (holding (L .list) (l .ys)) δ₂, tt))))),
-          (progress-val pr ∷ [], (sliceVal (L .buf .ptr) n ∷ [], (vbool e ∷ [], (val (L .ids) ∷ [], (val (L .list) ∷ [], tt))))),
+          (format, (pr, (front-of (holding (L .buf) (l .bs)) n γ, (e, (named-as (holding (L .ids) (l .xs)) δ₁, (named-as (holding (L .list) (l .ys)) δ₂, tt)))))),
+          (format-val format ∷ [], (progress-val pr ∷ [], (sliceVal (L .buf .ptr) n ∷ [], (vbool e ∷ [], (val (L .ids) ∷ [], (val (L .list) ∷ [], tt)))))),
         ),
         tt,
       ) tt
-      6 (made (EL.makes P.the-type P′.the-plain 𝓤 H A pr _ pr-is), (held, (made (bool-makes 𝓤 H A W e _ refl), (held, (held, tt))))) refl (os ν₀ ν₁ ν₂ γ δ₁ δ₂) (λ u ws _ u-is.
-      turn-back t tt L l δ₁ δ₂ (ws .1 .1 .1 .0) (ws .1 .1 .1 .1 .0) p₀ p₁ p₂ (λ same₁ same₂. k u u-is (with-tables L l (ws .1 .1 .1 .0) (ws .1 .1 .1 .1 .0) same₁ same₂))))
+      6 (made (EL.makes Fo.the-type Fo′.the-plain 𝓤 H A format _ format-is), (made (EL.makes P.the-type P′.the-plain 𝓤 H A pr _ pr-is), (held, (made (bool-makes 𝓤 H A W e _ refl), (held, (held, tt)))))) refl (os ν₀ ν₁ ν₂ γ δ₁ δ₂) (λ u ws _ u-is.
+      turn-back t tt L l δ₁ δ₂ (ws .1 .1 .1 .1 .0) (ws .1 .1 .1 .1 .1 .0) p₀ p₁ p₂ (λ same₁ same₂. k u u-is (with-tables L l (ws .1 .1 .1 .1 .0) (ws .1 .1 .1 .1 .1 .0) same₁ same₂))))
 
   pub calls-frames : K → Triple 𝓤 (C #frames) (Asked (frames-call W mem run)) → (st : State) → Is S.the-row st (state-val st ∷ [])
       → ((ν₂ ν₃ : ℕ) (δ₂ δ₃ : GName) → Opds K W (Frames L l Γ ν₂ ν₃ δ₂ δ₃) E xs (state-val st ∷ val (L .list) ∷ val (L .out) ∷ []))
