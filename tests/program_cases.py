@@ -33,7 +33,7 @@ PAIRS = 3000
 ALONE, LONG_ALONE = 40, 2
 
 # What a read of it brings.
-PIECES = (1, 6, 7, 8, 291, 292, 293, 1000, 60000)
+PIECES = (1, 6, 7, 8, 291, 292, 293, 513, 514, 515, 1000, 60000)
 
 passed = 0
 failed = 0

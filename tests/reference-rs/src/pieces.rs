@@ -11,7 +11,9 @@ const LONG: usize = 20_000;
 const LEAST_OF_LONG: usize = 4_096;
 
 /// Sizes at which reads end near the header's end, a record's end or its line end.
-const USUAL: [usize; 14] = [1, 2, 6, 7, 8, 13, 289, 290, 291, 292, 293, 583, 584, 1_000];
+const USUAL: [usize; 17] = [
+    1, 2, 6, 7, 8, 13, 289, 290, 291, 292, 293, 513, 514, 515, 583, 584, 1_000,
+];
 
 /// A size for this input.
 pub fn size(rng: &mut Rng, input: &[u8]) -> usize {
