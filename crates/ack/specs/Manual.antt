@@ -7,8 +7,8 @@ use native.Mathlib.Omega.{arith}
 use lib.ListN.{length, drop}
 use Rattle.reason.specs.Numbers.{Notice}
 use Rattle.calendar.specs.Quarters.{isAllowed}
-use Rattle.calendar.specs.declared.Quarter.{Quarter}
-use Rattle.edits.specs.Formats.{isKnown, openingWith, mayOpen}
+use Rattle.edits.specs.FormatLaws.{quarter-opens}
+use Rattle.edits.specs.Formats.{isKnown, mayOpen}
 use Rattle.edits.specs.declared.Opening.{Opening}
 use Rattle.edits.specs.declared.format.Format.{Format}
 use Rattle.meaning.specs.Employers.{employers-are}
@@ -60,15 +60,11 @@ module _ (held : Opening) (file : List ℕ) where
         otherwise-refused = λ otherwise. record { says = says; frame = refl; first = first-is-first programRoom held file says e };
       }
 
-opens : (format : Format) (quarter : Quarter) → isKnown format ≡ true → isAllowed quarter ≡ true → mayOpen (openingWith format quarter) ≡ true
-unfolding mayOpen
-opens format quarter known allowed = rw (allowed, known)
-
 -- The acknowledgement of every input whose header gives a quarter that may be the last closed one says of its file what the manual says, in every format.
 pub acknowledged-as-in-manual : (format : Format) (input : List ℕ) → isKnown format ≡ true → isAllowed (headerQuarter input) ≡ true
     → ToldAsInManual (fileEdits programRoom (headerOpening format input) (drop headerSize input)) (drop headerSize input) (acknowledgement format input)
 acknowledged-as-in-manual format input known allowed =
-    rw (opens format (headerQuarter input) known allowed)
+    rw (quarter-opens format (headerQuarter input) known allowed)
     (by-outcome (headerOpening format input) (drop headerSize input) (meaning programRoom (headerOpening format input) (drop headerSize input)) refl)
 
 -- ---- "So no output exceeds 35 bytes for each employer and 35 more."
