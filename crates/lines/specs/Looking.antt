@@ -1,16 +1,32 @@
 -- Looking for the end of the first line: what a line still has at a place, and whether it is shorter than so many bytes.
 use Prim.Native.Nat.{ℕ, zero, suc, _+_, _≤_, _<_}
-use mathlib.Core.Bool.{Bool, true, false, _||_}
+use mathlib.Core.Bool.{Bool, true, false, not, _||_}
 use mathlib.Core.List.{List, [], _∷_}
 use mathlib.Core.Path.{_≡_, refl}
 use native.Mathlib.Numerals.{add-one}
 use native.Mathlib.Omega.{arith}
 use borrow.Author.Tests.{lt-ltb, le-ltb, ltb-true, ltb-false}
-use lib.Dec.{ltb}
+use lib.Bits.{bitOr}
+use lib.Dec.{eqb, ltb}
 use lib.ListN.{length, getD, drop, drop-of-length-le}
 use lib.Seq.{drop-cons}
 use Rattle.laws.specs.Choice.{if_then_else_}
 use Rattle.lines.specs.Lines.{isEnd, textOf}
+
+-- What was found, as a number.
+abbrev pub markOf : Bool → ℕ
+markOf true = 1
+markOf false = 0
+
+pub mark-or : (a b : Bool) → bitOr (markOf a) (markOf b) ≡ markOf (a || b)
+mark-or true true = refl
+mark-or true false = refl
+mark-or false true = refl
+mark-or false false = refl
+
+pub marked : (a : Bool) → not (eqb (markOf a) 0) ≡ a
+marked true = refl
+marked false = refl
 
 -- What a line still has at i: nothing past the bytes, nothing at an end, else a character and what it has at i + 1.
 module _ (s : List ℕ) (i : ℕ) where

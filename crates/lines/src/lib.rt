@@ -5,6 +5,7 @@ ghost use Prim.Native.Nat.{_≤_, min};
 ghost use lib.Dec.{ltb};
 ghost use lib.ListN.{length, drop};
 ghost use Rattle.lines.specs.Lines.{isEnd, textOf, endOf, firstLine};
+ghost use Rattle.lines.specs.Looking.{markOf};
 ghost use Rattle.lines.specs.Cutting.{beyond, cutting, cutOf};
 
 // The bytes that a line and its end take, or the column and the reason of its refusal.
@@ -22,20 +23,27 @@ fn is_end(b: u8) -> bool
     b == 13
 }
 
-// Whether the first line is shorter than n. Every one of n bytes is looked at, so that a compiler can compare several at once.
+// 1 at a byte that ends a line, else 0.
+fn end_mark(b: u8) -> u8
+    ensures { λ r. ⌜ r ≡ markOf (isEnd b) ⌝ }
+{
+    if is_end(b) { 1 } else { 0 }
+}
+
+// Whether the first line is shorter than n. Every one of n bytes is looked at, and what was found is kept as a number, so that a compiler can compare several at once; a truth value it takes apart, and compares byte by byte.
 fn is_shorter(s: &[u8], n: usize) -> bool
     ensures { λ r. ⌜ r ≡ ltb (length (textOf (now (s .entry)))) n ⌝ }
 {
     if s.len() < n {
         return true;
     }
-    let mut ended = false;
+    let mut found: u8 = 0;
     let mut i = 0;
     while i < n {
-        ended = ended | is_end(s[i]);
+        found = found | end_mark(s[i]);
         i += 1;
     }
-    ended
+    found != 0
 }
 
 // Where to look for the end of the first line: at the last of `most` bytes, where the line is as long; else from the first on.
