@@ -273,7 +273,7 @@ def compare_source(source, paper, fields):
 
 
 def compare_fields(read, source, fields):
-    code, specs = read("crates/layout/src/lib.rt"), read("crates/layout/specs/Fields.antt")
+    code, specs = read("crates/pfml_fields/src/lib.rt"), read("crates/pfml_fields/specs/Fields.antt")
     rows = in_records(code_fields(code))
     same("FIELDS has five records", 5, len(rows))
     starts = [sum(len(fields[r]) for r in RECORDS[:k]) for k in range(5)]
@@ -291,7 +291,7 @@ def compare_fields(read, source, fields):
 
 
 def compare_map(read, fields):
-    numbers, number = code_map(read("crates/layout/src/map.rt")), 0
+    numbers, number = code_map(read("crates/pfml_fields/src/map.rt")), 0
     same("MAP has five records of 290 columns", 5 * 290, len(numbers))
     for k, record in enumerate(RECORDS):
         wanted = []

@@ -138,7 +138,7 @@ def exports():
 
 def fields_in_header(text):
     """The header's fields are rows of the list of fields, by number and columns; a text is named as one."""
-    rows = read("crates", "layout", "specs", "Fields.antt").decode()
+    rows = read("crates", "pfml_fields", "specs", "Fields.antt").decode()
     for letter in "AESTF":
         table = re.findall(r"^ +row (\w+) (\d+) (\d+) ∷", re.search(r"^fieldsOf%s =\n(.*?)\[\]" % letter, rows, re.M | re.S).group(1), re.M)
         named = re.findall(r"^ +WAGE_%s_(\w+) = (\d+), +/\* (\d+)-(\d+)(, text)?" % letter, text, re.M)

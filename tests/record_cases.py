@@ -22,7 +22,7 @@ ROOM = 65536
 
 
 def read_rows():
-    with open(os.path.join(ROOT, "crates", "layout", "src", "lib.rt"), encoding="utf-8") as f:
+    with open(os.path.join(ROOT, "crates", "pfml_fields", "src", "lib.rt"), encoding="utf-8") as f:
         found = re.findall(r"\[class::(\w+), (\d+), (\d+)\]", f.read())
     rows = [(name, int(a), int(b)) for name, a, b in found]
     starts = [i for i, row in enumerate(rows) if row[1] == 1] + [len(rows)]

@@ -13,12 +13,13 @@ use Rattle.edits.specs.Formats.{mayOpen}
 use Rattle.edits.specs.declared.Opening.{Opening}
 use Rattle.edits.specs.declared.Phase.the-variants.{AfterF}
 use Rattle.edits.specs.declared.format.Format.{Format}
-use Rattle.record.specs.declared.said.Said.{Said}
+use Rattle.shape.specs.declared.Said.{Said}
 use Rattle.tables.specs.Pad.{pad, length-pad}
 use Rattle.tables.specs.Room.{Tables, tables, roomOf}
 use Rattle.tables.specs.Tables.{noEmployer}
 use Rattle.tables.specs.declared.Employer.{Employer}
-use Rattle.meaning.specs.Before.{phaseIn, totalsIn, entriesIn}
+use Rattle.record.specs.Formats.{lawfulOf}
+use Rattle.meaning.specs.Before.{phaseIn, openIn, idsUnder, totalsIn, entriesIn}
 use Rattle.meaning.specs.BeforeLaws.{entries-many}
 use Rattle.meaning.specs.Meaning.{Outcome, accepted, refused, recordsOnto, meaning}
 use Rattle.meaning.specs.Theorems.{accepted-iff}
@@ -32,7 +33,7 @@ use Rattle.walk.specs.At.{acceptedAt, Good}
 use Rattle.walk.specs.AtEnd.{all-taken, refused-left}
 use Rattle.walk.specs.CallLaws.{file-sound-at}
 use Rattle.walk.specs.Calls.{leaves, wholeFile}
-use Rattle.walk.specs.GoodLaws.{good-none, still-reportable}
+use Rattle.walk.specs.GoodLaws.{good-none}
 use Rattle.walk.specs.WholeLaws.{whole-means}
 use Rattle.frames.specs.Frames.{refusalFrame, framesOf, written, Framing, untouched, fitted, roomWithout, framing}
 use Rattle.frames.specs.FrameLaws.{refusal-length, within-bound, accepted-framed, refused-framed}
@@ -76,7 +77,8 @@ module _ (held : Opening) (allowed : mayOpen held ≡ true) (p : List Said) (goo
       sound-fit (roomWithout (acceptedAt held p) list) (acceptedAt held p)
       (rw (length-pad noEmployer 1024 (entriesIn p) few) (file-sound-at programRoom held p good allowed))
       (λ o. absurd (false≢true o))
-      (rw (allowed, still-reportable held p AfterF last refl (good .quarter)))
+      (lawfulOf (held .format) .more-unlent 8192 (length (idsUnder p)) false (totalsIn p) (openIn p) (rw last at (good .more)))
+      (rw (allowed, rw last at (good .quarter)))
 
   accepted-written : (out : List ℕ) → enough ≤ length out → framing (acceptedAt held p) list out ≡ writes (framesOf (accepted (entriesIn p) (totalsIn p))) out
   accepted-written out h =
@@ -86,7 +88,7 @@ module _ (held : Opening) (allowed : mayOpen held ≡ true) (p : List Said) (goo
 -- ---- a file
 module _ (held : Opening) (file : List ℕ) (t : Tables) (room : roomOf t ≡ programRoom) (out : List ℕ) (h : enough ≤ length out) where
   abbrev records : List Said
-  records = recordsOnto [] (linesOf file)
+  records = recordsOnto (held .format) [] (linesOf file)
 
   abbrev WritesFor : Out → List ℕ → Type 0
   WritesFor o frames = framing (o .walk) (o .left .list) out ≡ writes frames out

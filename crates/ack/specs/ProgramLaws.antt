@@ -16,6 +16,7 @@ use Rattle.number.specs.NumberLaws.{number-in-front}
 use Rattle.number.specs.Numbers.{numberIn}
 use Rattle.lines.specs.Lines.{firstLine}
 use Rattle.edits.specs.declared.format.Format.{Format}
+use Rattle.record.specs.Formats.{shapeOf, lawfulOf}
 use Rattle.tables.specs.Room.{Tables}
 use Rattle.state.specs.Walks.{Walk}
 use Rattle.step.specs.Steps.{Out, openStep, lineStep, endStep}
@@ -37,11 +38,15 @@ abbrev TurnAgrees : Turn → List ℕ → Out → Type 0
 TurnAgrees next future o = Agrees (next .progress) (next .left) (next .tables) future o
 
 -- ---- what a call takes, in what is held and in all that will be read
--- A line that is whole in what is held is the line of the whole input. PFML's lines are, with 292 bytes.
-held-line : (walk : Walk) (t : Tables) (held future : List ℕ) → 292 ≤ length held → lineStep walk (firstLine held) t ≡ lineStep walk (firstLine (held ++ future)) t
+-- A line that is whole in what is held is the line of the whole input.
+held-line : (walk : Walk) (t : Tables) (held future : List ℕ) → shapeOf (walk .held .format) .length + 2 ≤ length held → lineStep walk (firstLine held) t ≡ lineStep walk (firstLine (held ++ future)) t
 held-line walk t held future h =
     ap (λ (s : List ℕ). lineStep walk (firstLine s) t) (sym (take-append-seam held future))
     ∙ pieces-are-whole walk t (length held) (held ++ future) (inl h)
+
+-- Every format's lines are, with the bytes of the longest.
+longest-line : (walk : Walk) (n : ℕ) → longestLine ≤ n → shapeOf (walk .held .format) .length + 2 ≤ n
+longest-line walk n h = omega (arith, lawfulOf (walk .held .format) .short)
 
 -- A line is taken out of what is held as out of the whole input.
 line-taken : (walk : Walk) (t : Tables) (held future : List ℕ) → 0 < length held → lineStep walk (firstLine held) t ≡ lineStep walk (firstLine (held ++ future)) t
@@ -56,7 +61,7 @@ module _ (held future : List ℕ) (walk : Walk) (t : Tables) (some-held : 0 < le
   abbrev Carried : ℕ → Walk → Tables → Type 0
   Carried taken w u = calls all 0 (held ++ future) walk t ≡ calls all 0 (drop taken held ++ future) w u
 
-  one-more : (taken : ℕ) (w : Walk) (u : Tables) (next : Out) → 292 ≤ length (drop taken held) → next ≡ lineStep w (firstLine (drop taken held)) u → (next .taken ≡ 0 → ⊥) → Carried taken w u
+  one-more : (taken : ℕ) (w : Walk) (u : Tables) (next : Out) → shapeOf (w .held .format) .length + 2 ≤ length (drop taken held) → next ≡ lineStep w (firstLine (drop taken held)) u → (next .taken ≡ 0 → ⊥) → Carried taken w u
       → Carried (taken + next .taken) (next .walk) (next .left)
   one-more taken w u next long is some same =
       same ∙ line-taken w u (drop taken held) future (omega arith) (held-line w u (drop taken held) future long) next is some
@@ -86,11 +91,11 @@ module _ (future : List ℕ) where
       → (none : Bool) → eqb (o .taken) 0 ≡ none
       → TurnAgrees (if none then ends (endStep (o .walk) (o .left)) else linesTurn false (o .taken - 1) rest (o .walk) (o .left)) future (calls all 0 ((b ∷ rest) ++ future) walk t)
   after-lines b rest more walk t long o e within true none =
-      let same = run-refused (b ∷ rest) future walk t (omega arith) (held-line walk t (b ∷ rest) future (omega arith)) o e (eqb-true (o .taken) 0 none) in
+      let same = run-refused (b ∷ rest) future walk t (omega arith) (held-line walk t (b ∷ rest) future (longest-line walk (length (b ∷ rest)) long)) o e (eqb-true (o .taken) 0 none) in
       (ap (λ (x : Out). x .walk) (sym same), ap (λ (x : Out). x .left) (sym same))
   after-lines b rest more walk t long o e within false some =
       let taken = eqb-false (o .taken) 0 some in
-      let same = run-taken (b ∷ rest) future walk t (omega arith) (held-line walk t (b ∷ rest) future (omega arith)) o e taken
+      let same = run-taken (b ∷ rest) future walk t (omega arith) (held-line walk t (b ∷ rest) future (longest-line walk (length (b ∷ rest)) long)) o e taken
       ∙ ap (λ (s : List ℕ). calls all 0 (s ++ future) (o .walk) (o .left)) (sym (behind (o .taken) b rest (omega arith))) in
       subst (TurnAgrees (linesTurn false (o .taken - 1) rest (o .walk) (o .left)) future) (sym same) (more (o .taken - 1) (omega arith) (o .walk) (o .left))
 

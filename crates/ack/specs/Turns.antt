@@ -12,7 +12,7 @@ use Rattle.tables.specs.Room.{Tables}
 use Rattle.edits.specs.Formats.{openingWith}
 use Rattle.edits.specs.declared.Opening.{Opening}
 use Rattle.edits.specs.declared.format.Format.{Format}
-use Rattle.meaning.specs.Before.{noQuarter}
+use Rattle.shape.specs.After.{noQuarter}
 use Rattle.state.specs.Walks.{Walk}
 use Rattle.step.specs.Steps.{Out, openStep, endStep}
 use Rattle.walk.specs.Runs.{linesStep}

@@ -13,8 +13,9 @@ use Rattle.edits.specs.Formats.{mayOpen}
 use Rattle.edits.specs.declared.Opening.{Opening}
 use Rattle.edits.specs.declared.format.Format.{Format}
 use Rattle.edits.specs.declared.Phase.the-variants.{BeforeA, EOpen}
-use Rattle.record.specs.Blot.{blot-keeps}
-use Rattle.record.specs.Employees.{blot}
+use Rattle.shape.specs.Blot.{blot-keeps}
+use Rattle.shape.specs.Hidden.{blot}
+use Rattle.record.specs.Formats.{shapeOf}
 use Rattle.tables.specs.Room.{Room, Tables, roomOf}
 use Rattle.meaning.specs.Meaning.{meaning}
 use Rattle.step.specs.Steps.{Out}
@@ -35,51 +36,53 @@ level-none = level-same [] [] refl
 before-e : BeforeA ≡ EOpen → ⊥
 before-e e = let z : _≡_ {A = ℕ} 0 1 = cc in omega arith
 
-module _ (one other : List ℕ) (alike : Alike one other) where
+module _ (held : Opening) (one other : List ℕ) (alike : Alike (shapeOf (held .format)) one other) where
   -- Both files have the same lines and ends but for the employees.
-  pub lines-alike : AlikeLines (linesOf one) (linesOf other)
+  pub lines-alike : AlikeLines (shapeOf (held .format)) (linesOf one) (linesOf other)
   lines-alike =
       record {
-        equal-bytes = changed-lines blot blot-keeps one other (alike .equal-bytes);
+        equal-bytes = changed-lines (blot (shapeOf (held .format))) (blot-keeps (shapeOf (held .format))) one other (alike .equal-bytes);
         own-one = alike .own-one;
         own-other = alike .own-other;
         zero-alike = alike .zero-alike;
         repeat-alike = alike .repeat-alike;
         wages-alike = alike .wages-alike;
+        seconds-alike = alike .seconds-alike;
       }
 
-  same : (room : Room) (held : Opening) → Same room held [] [] (linesOf one) (linesOf other)
-  same room held = alike-ends room held (linesOf one) (linesOf other) [] [] lines-alike level-none (shut before-e refl refl refl)
+  same : (room : Room) → Same room held [] [] (linesOf one) (linesOf other)
+  same room = alike-ends room held (linesOf one) (linesOf other) [] [] lines-alike level-none (shut before-e (refl, refl) refl refl)
 
-  -- They mean the same, whatever the quarter and the room.
-  pub meaning-alike : (room : Room) (held : Opening) → meaning room held one ≡ meaning room held other
-  meaning-alike room held = same room held .0
+  -- They mean the same, whatever the room.
+  pub meaning-alike : (room : Room) → meaning room held one ≡ meaning room held other
+  meaning-alike room = same room .0
 
-  whole-alike : (held : Opening) (t : Tables) → wholeFile held one t ≡ wholeFile held other t
-  whole-alike held t = by (mayOpen held) refl where
+  whole-alike : (t : Tables) → wholeFile held one t ≡ wholeFile held other t
+  whole-alike t = by (mayOpen held) refl where
     by : (allowed : Bool) → mayOpen held ≡ allowed → wholeFile held one t ≡ wholeFile held other t
-    by true e = rw e (same (roomOf t) held .1)
+    by true e = rw e (same (roomOf t) .1)
     by false e = rw e
 
-  -- Through the calls, with the same quarter, any quarter, and the same tables, with a lending for each file: the answer, the state and every lent table at
-  -- the end.
-  pub nothing-of-the-employee : (held : Opening) (t : Tables) (lend lend' : ℕ → ℕ) → Lending lend → Lending lend'
+  -- Through the calls, with the same format and quarter, any quarter, and the same tables, with a lending for each file: the answer, the state and every lent
+  -- table at the end.
+  pub nothing-of-the-employee : (t : Tables) (lend lend' : ℕ → ℕ) → Lending (held .format) lend → Lending (held .format) lend'
       → walked lend held one t ≡ walked lend' held other t
-  nothing-of-the-employee held t lend lend' lending lending' =
-      walk-means lend lending held one t ∙ whole-alike held t ∙ sym (walk-means lend' lending' held other t)
+  nothing-of-the-employee t lend lend' lending lending' =
+      walk-means held lend lending one t ∙ whole-alike t ∙ sym (walk-means held lend' lending' other t)
 
   -- So the frames of that state and list are the same, in every buffer.
-  pub frames-alike : (held : Opening) (t : Tables) (lend lend' : ℕ → ℕ) → Lending lend → Lending lend' → (out : List ℕ)
+  pub frames-alike : (t : Tables) (lend lend' : ℕ → ℕ) → Lending (held .format) lend → Lending (held .format) lend' → (out : List ℕ)
       → framing (walked lend held one t .walk) (walked lend held one t .left .list) out
       ≡ framing (walked lend' held other t .walk) (walked lend' held other t .left .list) out
-  frames-alike held t lend lend' lending lending' out =
-      ap (λ (o : Out). framing (o .walk) (o .left .list) out) (nothing-of-the-employee held t lend lend' lending lending')
+  frames-alike t lend lend' lending lending' out =
+      ap (λ (o : Out). framing (o .walk) (o .left .list) out) (nothing-of-the-employee t lend lend' lending lending')
 
-  file-alike : (held : Opening) → fileFrames held one ≡ fileFrames held other
-  file-alike held = rw (meaning-alike programRoom held)
+  file-alike : fileFrames held one ≡ fileFrames held other
+  file-alike = rw (meaning-alike programRoom)
 
-  -- "the acknowledgement is the same byte for byte": of the program, under any seven bytes of header.
-  pub acknowledgement-alike : (format : Format) (header : List ℕ) → length header ≡ headerSize → acknowledgement format (header ++ one) ≡ acknowledgement format (header ++ other)
-  acknowledgement-alike format header seven = answers one ∙ file-alike (headerOpening format header) ∙ sym (answers other) where
-    answers : (file : List ℕ) → acknowledgement format (header ++ file) ≡ fileFrames (headerOpening format header) file
-    answers file = rw (← header-held header file (le-of-eq (sym seven)), drop-at header file 7 seven)
+-- "the acknowledgement is the same byte for byte": of the program, under any seven bytes of header.
+pub acknowledgement-alike : (format : Format) (one other : List ℕ) → Alike (shapeOf format) one other → (header : List ℕ) → length header ≡ headerSize
+    → acknowledgement format (header ++ one) ≡ acknowledgement format (header ++ other)
+acknowledgement-alike format one other alike header seven = answers one ∙ file-alike (headerOpening format header) one other alike ∙ sym (answers other) where
+  answers : (file : List ℕ) → acknowledgement format (header ++ file) ≡ fileFrames (headerOpening format header) file
+  answers file = rw (← header-held header file (le-of-eq (sym seven)), drop-at header file 7 seven)

@@ -1,4 +1,4 @@
--- The hypotheses of demand 3 one by one, and a test of each: two files that pass it meet the hypothesis.
+-- The hypotheses of demand 3 one by one, for the paid leave file, and a test of each: two files that pass it meet the hypothesis.
 use Prim.Native.Nat.{ℕ}
 use mathlib.Core.Bool.{Bool, true, false, _&&_, false≢true}
 use mathlib.Core.List.{List, [], _∷_, map}
@@ -8,20 +8,25 @@ use borrow.Author.Tests.{eqb-true}
 use Rattle.laws.specs.Choice.{both-hold}
 use Rattle.laws.specs.Finding.{Finding, fine, broken}
 use Rattle.lines.specs.Lines.{Line, linesOf}
+use Rattle.chars.specs.Characters.{capitals}
 use Rattle.chars.specs.Columns.{isFine}
+use Rattle.edits.specs.Edit.{firstBroken}
+use Rattle.pfml.specs.Employees.{personalEdits}
+use Rattle.pfml.specs.Format.{pfmlShape}
+use Rattle.pfml.specs.Own.{meets-own}
 use Rattle.alike.specs.Alike.{blotted, employees, under, employers, AllMeet, isZero, repeatsAfter, repeats, wagesOf, Alike}
-use Rattle.alike.specs.Own.{ownFinding, meets-own}
+use Rattle.alike.specs.OrderedLaws.{no-seconds}
 
 -- "hold only permitted characters" is none of them: fields that meet their own rules do (`meets-own`).
 pub data Hypothesis : Type 0 where
   EqualBytes OwnRules ZeroAlike RepeatAlike WagesAlike : Hypothesis
 
 abbrev pub Met : Hypothesis → List ℕ → List ℕ → Type 0
-Met EqualBytes one other = blotted one ≡ blotted other
-Met OwnRules one other = AllMeet (employees (linesOf one)) × AllMeet (employees (linesOf other))
-Met ZeroAlike one other = map isZero (employees (linesOf one)) ≡ map isZero (employees (linesOf other))
-Met RepeatAlike one other = map repeats (employers (linesOf one)) ≡ map repeats (employers (linesOf other))
-Met WagesAlike one other = map wagesOf (employers (linesOf one)) ≡ map wagesOf (employers (linesOf other))
+Met EqualBytes one other = blotted pfmlShape one ≡ blotted pfmlShape other
+Met OwnRules one other = AllMeet pfmlShape (employees pfmlShape (linesOf one)) × AllMeet pfmlShape (employees pfmlShape (linesOf other))
+Met ZeroAlike one other = map (isZero pfmlShape) (employees pfmlShape (linesOf one)) ≡ map (isZero pfmlShape) (employees pfmlShape (linesOf other))
+Met RepeatAlike one other = map (repeats pfmlShape) (employers pfmlShape (linesOf one)) ≡ map (repeats pfmlShape) (employers pfmlShape (linesOf other))
+Met WagesAlike one other = map (wagesOf pfmlShape) (employers pfmlShape (linesOf one)) ≡ map (wagesOf pfmlShape) (employers pfmlShape (linesOf other))
 
 abbrev pub AllMet : List Hypothesis → List ℕ → List ℕ → Type 0
 AllMet [] one other = Unit {0}
@@ -37,10 +42,19 @@ others WagesAlike = EqualBytes ∷ OwnRules ∷ ZeroAlike ∷ RepeatAlike ∷ []
 
 -- Files that meet that one and the others are alike.
 module _ (one other : List ℕ) where
-  alike : Met EqualBytes one other → Met OwnRules one other → Met ZeroAlike one other → Met RepeatAlike one other → Met WagesAlike one other → Alike one other
-  alike b o z r w = record { equal-bytes = b; own-one = o .0; own-other = o .1; zero-alike = z; repeat-alike = r; wages-alike = w }
+  alike : Met EqualBytes one other → Met OwnRules one other → Met ZeroAlike one other → Met RepeatAlike one other → Met WagesAlike one other → Alike pfmlShape one other
+  alike b o z r w =
+      record {
+        equal-bytes = b;
+        own-one = o .0;
+        own-other = o .1;
+        zero-alike = z;
+        repeat-alike = r;
+        wages-alike = w;
+        seconds-alike = no-seconds (employers pfmlShape (linesOf one)) (employers pfmlShape (linesOf other)) w;
+      }
 
-  pub together : (left : Hypothesis) → Met left one other → AllMet (others left) one other → Alike one other
+  pub together : (left : Hypothesis) → Met left one other → AllMet (others left) one other → Alike pfmlShape one other
   together EqualBytes b (o, (z, (r, (w, end)))) = alike b o z r w
   together OwnRules o (b, (z, (r, (w, end)))) = alike b o z r w
   together ZeroAlike z (b, (o, (r, (w, end)))) = alike b o z r w
@@ -77,6 +91,10 @@ module _ {A : Type 0} (test : A → A → Bool) where
       let both = both-hold (test a b) (sameList s t) e in
       rw (tells a b (both .0), list-tells tells s t (both .1))
 
+-- What the own rules find on an S record.
+abbrev ownFinding : Line → Finding
+ownFinding line = firstBroken (personalEdits (capitals (line .text)))
+
 abbrev meetOwn : List Line → Bool
 meetOwn [] = true
 meetOwn (line ∷ lines) = isFine (ownFinding line) && meetOwn lines
@@ -85,7 +103,7 @@ is-fine : (f : Finding) → isFine f ≡ true → f ≡ fine
 is-fine fine e = refl
 is-fine (broken column number) e = absurd (false≢true e)
 
-all-meet : (lines : List Line) → meetOwn lines ≡ true → AllMeet lines
+all-meet : (lines : List Line) → meetOwn lines ≡ true → AllMeet pfmlShape lines
 unfolding AllMeet
 all-meet [] e = tt
 all-meet (line ∷ lines) e =
@@ -95,18 +113,18 @@ all-meet (line ∷ lines) e =
 -- Where this is opened, so are the definitions of this crate that it is computed with.
 unfoldable pub isMet : Hypothesis → List ℕ → List ℕ → Bool
 unfolding employees under employers repeatsAfter wagesOf
-isMet EqualBytes one other = sameList eqb (blotted one) (blotted other)
-isMet OwnRules one other = meetOwn (employees (linesOf one)) && meetOwn (employees (linesOf other))
-isMet ZeroAlike one other = sameList sameTruth (map isZero (employees (linesOf one))) (map isZero (employees (linesOf other)))
-isMet RepeatAlike one other = sameList (sameList sameTruth) (map repeats (employers (linesOf one))) (map repeats (employers (linesOf other)))
-isMet WagesAlike one other = sameList eqb (map wagesOf (employers (linesOf one))) (map wagesOf (employers (linesOf other)))
+isMet EqualBytes one other = sameList eqb (blotted pfmlShape one) (blotted pfmlShape other)
+isMet OwnRules one other = meetOwn (employees pfmlShape (linesOf one)) && meetOwn (employees pfmlShape (linesOf other))
+isMet ZeroAlike one other = sameList sameTruth (map (isZero pfmlShape) (employees pfmlShape (linesOf one))) (map (isZero pfmlShape) (employees pfmlShape (linesOf other)))
+isMet RepeatAlike one other = sameList (sameList sameTruth) (map (repeats pfmlShape) (employers pfmlShape (linesOf one))) (map (repeats pfmlShape) (employers pfmlShape (linesOf other)))
+isMet WagesAlike one other = sameList eqb (map (wagesOf pfmlShape) (employers pfmlShape (linesOf one))) (map (wagesOf pfmlShape) (employers pfmlShape (linesOf other)))
 
 pub met-by : (h : Hypothesis) (one other : List ℕ) → isMet h one other ≡ true → Met h one other
 unfolding isMet
-met-by EqualBytes one other e = list-tells eqb eqb-true (blotted one) (blotted other) e
+met-by EqualBytes one other e = list-tells eqb eqb-true (blotted pfmlShape one) (blotted pfmlShape other) e
 met-by OwnRules one other e =
-    let both = both-hold (meetOwn (employees (linesOf one))) (meetOwn (employees (linesOf other))) e in
-    (all-meet (employees (linesOf one)) (both .0), all-meet (employees (linesOf other)) (both .1))
+    let both = both-hold (meetOwn (employees pfmlShape (linesOf one))) (meetOwn (employees pfmlShape (linesOf other))) e in
+    (all-meet (employees pfmlShape (linesOf one)) (both .0), all-meet (employees pfmlShape (linesOf other)) (both .1))
 met-by ZeroAlike one other e = list-tells sameTruth truth-tells _ _ e
 met-by RepeatAlike one other e = list-tells (sameList sameTruth) (list-tells sameTruth truth-tells) _ _ e
 met-by WagesAlike one other e = list-tells eqb eqb-true _ _ e

@@ -7,7 +7,6 @@ pub mod Employee
 pub mod Ordered
 pub mod OrderedLaws
 pub mod EndHidden
-pub mod Own
 pub mod Hypotheses
 pub mod Pair
 pub mod Needed

@@ -8,7 +8,7 @@ use native.Mathlib.Omega.{arith}
 use Rattle.reason.specs.Numbers.{Notice, notice}
 use Rattle.lines.specs.Lines.{joined}
 use Rattle.edits.specs.Edit.{firstBroken}
-use Rattle.record.specs.Employees.{blotFrom}
+use Rattle.shape.specs.Hidden.{blotFrom}
 use Rattle.meaning.specs.Meaning.{refused, meaning}
 use Rattle.cases.specs.Cases.{room, held, computed, passes}
 use Rattle.cases.specs.Example.{reads, exampleWith}
@@ -98,6 +98,6 @@ needed left =
       one = one;
       other = other;
       others-met = met;
-      not-met = λ this. means-another left (meaning-alike one other (together one other left this met) room held);
+      not-met = λ this. means-another left (meaning-alike held one other (together one other left this met) room);
       differs = means-another left;
     }

@@ -7,21 +7,24 @@ use native.Mathlib.Omega.{arith}
 use lib.Dec.{eqb}
 use lib.ListN.{length, length-append}
 use borrow.Author.Tests.{eqb-true, ne-eqb}
+use Rattle.laws.specs.Choice.{if_then_else_}
 use Rattle.lines.specs.Lines.{Line}
 use Rattle.edits.specs.Counted.{openWith, totalsWith}
 use Rattle.edits.specs.declared.Open.{Open}
 use Rattle.edits.specs.declared.Phase.the-variants.{AfterA, EOpen, AfterT, AfterF}
 use Rattle.edits.specs.declared.Totals.{Totals}
-use Rattle.record.specs.declared.said.EmployeeOn.{EmployeeOn}
-use Rattle.record.specs.declared.said.EmployerOn.{EmployerOn}
-use Rattle.record.specs.declared.said.Said.{Said}
-use Rattle.record.specs.declared.said.Said.the-variants.{OfA, OfE, OfS, OfT, OfF, OfNone}
+use Rattle.shape.specs.Shape.{Shape}
+use Rattle.shape.specs.declared.EmployeeOn.{EmployeeOn}
+use Rattle.shape.specs.declared.EmployerOn.{EmployerOn}
+use Rattle.shape.specs.declared.Said.{Said}
+use Rattle.shape.specs.declared.Said.the-variants.{OfA, OfE, OfS, OfT, OfF, OfNone}
 use Rattle.tables.specs.Laws.{among-none, among-append}
 use Rattle.tables.specs.Steps.{among-more}
 use Rattle.tables.specs.Tables.{isAmong}
-use Rattle.meaning.specs.Before.{andId, idsUnder, openIn}
-use Rattle.alike.specs.Alike.{under, repeats, wagesOf}
-use Rattle.alike.specs.Level.{Level, Holds, Run, shut, running, open-alike, totals-alike, sumOf, level-same}
+use Rattle.shape.specs.After.{andId}
+use Rattle.meaning.specs.Before.{idsUnder}
+use Rattle.alike.specs.Alike.{under, repeats, wagesOf, secondsOf}
+use Rattle.alike.specs.Level.{Level, Holds, SameSums, Run, shut, running, open-alike, totals-alike, sumOf, level-same}
 
 -- ---- an S record
 among-one : (v x : ℕ) → isAmong v (x ∷ []) ≡ eqb x v
@@ -55,13 +58,28 @@ level-employee p q a b level zero =
       lines = rw (level .lines);
       phase = refl;
       filed = level .filed;
-      this = ap (λ (this : Open). openWith this (this .count + 1) 0) (level .this);
-      all = ap (λ (all : Totals). totalsWith all (all .count + 1) (all .employers) 0) (level .all);
+      this = ap (λ (this : Open). openWith this (this .count + 1) 0 0) (level .this);
+      all = ap (λ (all : Totals). totalsWith all (all .count + 1) (all .employers) 0 0) (level .all);
       used = room-alike (idsUnder p) (idsUnder q) (a .id) (b .id) (eqb (a .id) 0) refl (sym zero) (level .used);
       feins = level .feins;
       entries = level .entries;
       sums = omega (arith, level .sums);
+      seconds = omega (arith, level .seconds);
     }
+
+-- A number of zero stands under no E, so that it was never seen there.
+none-zero : (ids : List ℕ) (id : ℕ) (zero : Bool) → eqb id 0 ≡ zero → isAmong 0 ids ≡ false → isAmong 0 (if zero then ids else ids ++ (id ∷ [])) ≡ false
+none-zero ids id true e none = none
+none-zero ids id false e none = among-append 0 ids (id ∷ []) ∙ rw (none, among-one 0 id, e)
+
+pub never-zero : (p : List Said) → isAmong 0 (idsUnder p) ≡ false
+never-zero [] = among-none 0
+never-zero (OfA quarter ∷ p) = among-none 0
+never-zero (OfE employer ∷ p) = among-none 0
+never-zero (OfS employee ∷ p) = none-zero (idsUnder p) (employee .id) (eqb (employee .id) 0) refl (never-zero p)
+never-zero (OfT ∷ p) = among-none 0
+never-zero (OfF ∷ p) = among-none 0
+never-zero (OfNone ∷ p) = among-none 0
 
 -- ---- any other record, the same in both files
 abbrev pub Other : Said → Type 0
@@ -72,7 +90,11 @@ Other OfT = Unit {0}
 Other OfF = Unit {0}
 Other OfNone = ⊥
 
-module _ (p q : List Said) (level : Level p q) (sum : openIn p .sum ≡ openIn q .sum) where
+-- What an E brings: the S records under it repeat alike and come to the same.
+abbrev pub Begins : Shape → List Line → List Line → Type 0
+Begins s one other = (repeats s (under s one) ≡ repeats s (under s other)) × (wagesOf s (under s one) ≡ wagesOf s (under s other)) × (secondsOf s (under s one) ≡ secondsOf s (under s other))
+
+module _ (p q : List Said) (level : Level p q) (sum : SameSums p q) where
   sum-other : (said : Said) → Other said → sumOf (said ∷ p) ≡ sumOf (said ∷ q)
   sum-other (OfA quarter) other = rw (level .lines, totals-alike p q level sum, level .feins, level .entries)
   sum-other (OfE employer) other = rw (level .lines, level .filed, totals-alike p q level sum, level .feins, level .entries)
@@ -85,19 +107,18 @@ module _ (p q : List Said) (level : Level p q) (sum : openIn p .sum ≡ openIn q
   level-other said other = level-same (said ∷ p) (said ∷ q) (sum-other said other)
 
   -- Only an E begins a run.
-  pub run-other : (said : Said) → Other said → (one other : List Line)
-      → ((employer : EmployerOn) → said ≡ OfE employer → (repeats (under one) ≡ repeats (under other)) × (wagesOf (under one) ≡ wagesOf (under other)))
-      → Run (said ∷ p) (said ∷ q) one other
-  run-other (OfA quarter) is one other begins = shut (λ e. after-a e) refl refl refl where
+  pub run-other : (s : Shape) (said : Said) → Other said → (one other : List Line) → ((employer : EmployerOn) → said ≡ OfE employer → Begins s one other)
+      → Run s (said ∷ p) (said ∷ q) one other
+  run-other s (OfA quarter) is one other begins = shut (λ e. after-a e) (refl, refl) refl refl where
     after-a : AfterA ≡ EOpen → ⊥
     after-a e = let z : _≡_ {A = ℕ} 0 1 = cc in omega arith
-  run-other (OfE employer) is one other begins =
-      let begun = begins employer refl in running [] [] (λ id some. refl) (λ id some. refl) (begun .0) (rw (begun .1))
-  run-other (OfS employee) is one other begins = absurd is
-  run-other OfT is one other begins = shut (λ e. after-t e) refl refl refl where
+  run-other s (OfE employer) is one other begins =
+      let begun = begins employer refl in running [] [] (λ id some. refl) (λ id some. refl) (begun .0) (rw (begun .1)) (rw (begun .2))
+  run-other s (OfS employee) is one other begins = absurd is
+  run-other s OfT is one other begins = shut (λ e. after-t e) (refl, refl) refl refl where
     after-t : AfterT ≡ EOpen → ⊥
     after-t e = let z : _≡_ {A = ℕ} 0 1 = cc in omega arith
-  run-other OfF is one other begins = shut (λ e. after-f e) refl refl refl where
+  run-other s OfF is one other begins = shut (λ e. after-f e) (refl, refl) refl refl where
     after-f : AfterF ≡ EOpen → ⊥
     after-f e = let z : _≡_ {A = ℕ} 0 1 = cc in omega arith
-  run-other OfNone is one other begins = absurd is
+  run-other s OfNone is one other begins = absurd is

@@ -9,8 +9,12 @@ use lib.ListN.{getD, take, drop}
 use Rattle.laws.specs.Text.{bytes}
 use Rattle.lines.specs.Lines.{joined}
 use Rattle.edits.specs.Edit.{firstBroken}
-use Rattle.edits.specs.declared.Opening.{Opening}
-use Rattle.record.specs.Employees.{blotFrom}
+use Rattle.calendar.specs.declared.Quarter.{Quarter}
+use Rattle.edits.specs.Formats.{openingWith}
+use Rattle.edits.specs.declared.format.Format.the-variants.{Pfml}
+use Rattle.pfml.specs.Format.{pfmlShape}
+use Rattle.pfml.specs.Lawful.{pfml-lawful}
+use Rattle.shape.specs.Hidden.{blotFrom}
 use Rattle.tables.specs.Room.{Room}
 use Rattle.meaning.specs.Meaning.{accepted, meaning}
 use Rattle.cases.specs.Cases.{room, held, computed}
@@ -19,7 +23,7 @@ use Rattle.alike.specs.Alike.{Alike}
 use Rattle.alike.specs.Employee.{meaning-alike}
 use Rattle.alike.specs.Hypotheses.{EqualBytes, others, together, isMet, met-by, all-met-by}
 use Rattle.alike.specs.Ordered.{AsOrdered}
-use Rattle.alike.specs.OrderedLaws.{alike-ordered}
+use Rattle.alike.specs.OrderedLaws.{alike-ordered, as-ordered}
 
 -- The example with its E, S, S and T a second time, then of another employer.
 abbrev ofAnother : List Change
@@ -57,13 +61,13 @@ unfolding computed
 pair-accepted = refl
 
 -- They meet the hypotheses,
-pub pair-alike : Alike one other
+pub pair-alike : Alike pfmlShape one other
 unfolding computed isMet joined firstBroken blotFrom
 pair-alike = together one other EqualBytes (met-by EqualBytes one other refl) (all-met-by (others EqualBytes) one other refl)
 
 -- as the order says them too,
 pub pair-ordered : AsOrdered one other
-pair-ordered = alike-ordered one other pair-alike
+pair-ordered = as-ordered one other (alike-ordered pfmlShape pfml-lawful one other pair-alike)
 
 -- and differ: line 3 begins at byte 582, and its column 2 holds 1 in the one file and 3 in the other.
 pub pair-differs : one ≡ other → ⊥
@@ -71,5 +75,5 @@ unfolding bytes
 pair-differs same = let z : _≡_ {A = ℕ} 49 51 = ap (λ (file : List ℕ). getD file 583 0) same in omega arith
 
 -- So they mean the same, and the second is accepted with the same totals: cited, not computed.
-pub pair-means : (room : Room) (held : Opening) → meaning room held one ≡ meaning room held other
-pair-means = meaning-alike one other pair-alike
+pub pair-means : (room : Room) (quarter : Quarter) → meaning room (openingWith Pfml quarter) one ≡ meaning room (openingWith Pfml quarter) other
+pair-means room quarter = meaning-alike (openingWith Pfml quarter) one other pair-alike room

@@ -20,12 +20,12 @@ use Rattle.text.specs.Put.{blanks}
 use Rattle.text.specs.Text.{allBlank}
 use Rattle.field.specs.Classes.{class-again}
 use Rattle.field.specs.declared.class.Class.the-variants.{AccountNumber}
-use Rattle.layout.specs.Fields.{row, firstIn, lastIn, noRow}
-use Rattle.layout.specs.Rows.{fields-of-E, account-number-of-E}
-use Rattle.record.specs.Judge.{rowsFor}
-use Rattle.record.specs.Kinds.{kindOf, isKnown}
-use Rattle.record.specs.Letters.{kind-of-E}
-use Rattle.record.specs.declared.kind.Kind.{Kind}
+use Rattle.pfml_fields.specs.Fields.{row, firstIn, lastIn, noRow}
+use Rattle.pfml_fields.specs.Rows.{fields-of-E, account-number-of-E}
+use Rattle.pfml.specs.Edits.{rowsFor}
+use Rattle.pfml.specs.Kinds.{kindOf, isKnown}
+use Rattle.pfml.specs.Letters.{kind-of-E}
+use Rattle.pfml.specs.declared.kind.Kind.{Kind}
 use Rattle.write.specs.Records.{recordOf}
 use Rattle.build.specs.Building.{partOf, building}
 use Rattle.build.specs.FillLaws.{padded-is}

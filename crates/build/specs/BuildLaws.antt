@@ -11,7 +11,7 @@ use Rattle.text.specs.Put.{putText}
 use Rattle.text.specs.PutLaws.{put-all}
 use Rattle.edits.specs.Edit.{firstBroken}
 use Rattle.edits.specs.EditLaws.{first-cons}
-use Rattle.record.specs.Kinds.{kindOf, marksOf}
+use Rattle.pfml.specs.Kinds.{kindOf, marksOf}
 use Rattle.write.specs.Writing.{noticeIn, writtenBy}
 use Rattle.write.specs.declared.Wrote.{Wrote}
 use Rattle.write.specs.declared.Wrote.the-variants.{Record}

@@ -13,7 +13,7 @@ use Rattle.chars.specs.declared.columns.Allowed.the-variants.{Permitted}
 use Rattle.edits.specs.Edit.{Edit, rule, eachColumn, firstBroken}
 use Rattle.edits.specs.Own.{own}
 use Rattle.edits.specs.declared.Marks.{Marks}
-use Rattle.record.specs.Kinds.{kindOf, marksOf}
+use Rattle.pfml.specs.Kinds.{kindOf, marksOf}
 use Rattle.step.specs.Moves.{allWell}
 use Rattle.write.specs.Records.{Part, text, number, blank, recordOf}
 use Rattle.write.specs.Writing.{Writing}

@@ -17,9 +17,9 @@ use Rattle.number.specs.Rules.{periodIn, flagIn, beginsWith69, isNineZeros, may
 use Rattle.text.specs.Put.{blanks, putText}
 use Rattle.text.specs.Text.{allBlank, isIndented, isAsked, readsAs, hasPattern}
 use Rattle.field.specs.Classes.{classes, classOf}
-use Rattle.layout.specs.Fields.{fieldsOfE, fieldsOfS}
+use Rattle.pfml_fields.specs.Fields.{fieldsOfE, fieldsOfS}
 use Rattle.edits.specs.Edit.{firstBroken}
-use Rattle.record.specs.Kinds.{kindOf}
+use Rattle.pfml.specs.Kinds.{kindOf}
 use Rattle.step.specs.Moves.{allWell}
 use Rattle.write.specs.Records.{putAll}
 use Rattle.write.specs.Writing.{Writing}

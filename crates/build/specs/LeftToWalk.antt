@@ -13,20 +13,19 @@ use Rattle.chars.specs.CharacterLaws.{capitals-already}
 use Rattle.chars.specs.ColumnLaws.{column-says, blank-column}
 use Rattle.field.specs.Classes.{class-again}
 use Rattle.field.specs.declared.class.Class.the-variants.{RecordLetter}
-use Rattle.layout.specs.Fields.{noRow}
-use Rattle.layout.specs.Rows.{LetterFirst, letters-first}
+use Rattle.pfml_fields.specs.Fields.{noRow}
+use Rattle.pfml_fields.specs.Rows.{LetterFirst, letters-first}
 use Rattle.edits.specs.Edit.{firstBroken}
 use Rattle.edits.specs.EditLaws.{first-cons, first-append}
 use Rattle.edits.specs.ListLaws.{context-left}
 use Rattle.edits.specs.Lists.{fieldEdits, contextEdits}
 use Rattle.edits.specs.declared.Context.{Context}
 use Rattle.edits.specs.declared.Seen.{Seen}
-use Rattle.record.specs.Judge.{kindOn, rowsFor, around, placedEdits, textEdits}
-use Rattle.record.specs.Kinds.{kindOf, isKnown}
-use Rattle.record.specs.Letters.{Named, letter-again}
-use Rattle.record.specs.Rules.{rulesFor}
-use Rattle.record.specs.declared.kind.Kind.{Kind}
-use Rattle.record.specs.declared.kind.Kind.the-variants.{Transmitter, Employer, Employee, Total, Final, Unknown}
+use Rattle.pfml.specs.Edits.{rowsFor, around, placedEdits, textEdits, rulesFor}
+use Rattle.pfml.specs.Kinds.{kindOn, kindOf, isKnown}
+use Rattle.pfml.specs.Letters.{Named, letter-again}
+use Rattle.pfml.specs.declared.kind.Kind.{Kind}
+use Rattle.pfml.specs.declared.kind.Kind.the-variants.{Transmitter, Employer, Employee, Total, Final, Unknown}
 use Rattle.build.specs.Building.{building}
 use Rattle.build.specs.FillLaws.{padded-read}
 use Rattle.build.specs.StandLaws.{each-at}

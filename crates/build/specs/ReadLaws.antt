@@ -12,8 +12,8 @@ use Rattle.chars.specs.Columns.{widthOf}
 use Rattle.field.specs.Classes.{classOf}
 use Rattle.field.specs.declared.class.Class.{Class}
 use Rattle.field.specs.declared.class.Class.the-variants.{Ignored, RecordLetter, BlankSpace, Numeric, AccountNumber, Flag, ThirdQuarterFlag, Period, RequiredText, OptionalText, PersonName, EntityCode, StateCode, ZipCode, ZipExtension, TaxYear, EmployerFein, IdentityNumber, CeaseDate}
-use Rattle.layout.specs.Fields.{classIn, firstIn, lastIn}
-use Rattle.layout.specs.Fit.{isNumber}
+use Rattle.pfml_fields.specs.Fields.{classIn, firstIn, lastIn}
+use Rattle.pfml_fields.specs.Fit.{isNumber}
 use Rattle.edits.specs.Parts.{Readable}
 use Rattle.build.specs.Building.{fitsIn}
 use Rattle.build.specs.RowLaws.{AllReadable}

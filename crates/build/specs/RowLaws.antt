@@ -8,15 +8,15 @@ use native.Mathlib.Omega.{arith}
 use lib.ListN.{length, getD}
 use Rattle.laws.specs.Lists.{any-default}
 use Rattle.field.specs.Classes.{classOf}
-use Rattle.layout.specs.Fields.{classIn, firstIn, lastIn, rowsOf, fields, noRow, firstField}
-use Rattle.layout.specs.Fit.{isNumber, number-width}
-use Rattle.layout.specs.Rows.{all-fields, in-list, fields-counted, field-in-all, rows-in-order, none-behind}
-use Rattle.layout.specs.Tiling.{tiles, rows-tile}
+use Rattle.pfml_fields.specs.Fields.{classIn, firstIn, lastIn, rowsOf, fields, noRow, firstField}
+use Rattle.pfml_fields.specs.Fit.{isNumber, number-width}
+use Rattle.pfml_fields.specs.Rows.{all-fields, in-list, fields-counted, field-in-all, rows-in-order, none-behind}
+use Rattle.pfml_fields.specs.Tiling.{tiles, rows-tile}
 use Rattle.edits.specs.Parts.{Readable}
-use Rattle.record.specs.Judge.{rowsFor}
-use Rattle.record.specs.Kinds.{placeInOrder, isKnown}
-use Rattle.record.specs.declared.kind.Kind.{Kind}
-use Rattle.record.specs.declared.kind.Kind.the-variants.{Transmitter, Employer, Employee, Total, Final, Unknown}
+use Rattle.pfml.specs.Edits.{rowsFor}
+use Rattle.pfml.specs.Kinds.{placeInOrder, isKnown}
+use Rattle.pfml.specs.declared.kind.Kind.{Kind}
+use Rattle.pfml.specs.declared.kind.Kind.the-variants.{Transmitter, Employer, Employee, Total, Final, Unknown}
 
 rows-at : (kind : Kind) → rowsFor kind ≡ rowsOf (placeInOrder kind)
 rows-at Transmitter = sym (rows-in-order .0)

@@ -24,10 +24,10 @@ use Rattle.text.specs.PutLaws.{put-text-elsewhere, put-text-at}
 use Rattle.text.specs.Text.{allBlank}
 use Rattle.text.specs.TextLaws.{all-blank-says}
 use Rattle.field.specs.Classes.{classOf}
-use Rattle.layout.specs.Fields.{classIn, firstIn, lastIn, noRow}
-use Rattle.layout.specs.Tiling.{tiles, tiles-first, row-within}
-use Rattle.record.specs.Judge.{rowsFor}
-use Rattle.record.specs.Kinds.{kindOf, isKnown}
+use Rattle.pfml_fields.specs.Fields.{classIn, firstIn, lastIn, noRow}
+use Rattle.pfml_fields.specs.Tiling.{tiles, tiles-first, row-within}
+use Rattle.pfml.specs.Edits.{rowsFor}
+use Rattle.pfml.specs.Kinds.{kindOf, isKnown}
 use Rattle.write.specs.PartLaws.{put-keeps, put-none, put-first}
 use Rattle.write.specs.Records.{put, putAll, recordOf}
 use Rattle.build.specs.Building.{partBy, partOf}

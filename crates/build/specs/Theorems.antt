@@ -15,17 +15,17 @@ use Rattle.chars.specs.ColumnLaws.{unless-fine, unless-labelled, permitted-labe
 use Rattle.chars.specs.declared.columns.Allowed.the-variants.{Permitted}
 use Rattle.text.specs.Put.{blanks}
 use Rattle.number.specs.Numbers.{numberIn}
-use Rattle.layout.specs.Fields.{firstIn, lastIn, noRow}
-use Rattle.layout.specs.Tiling.{tiles, tiles-none, tiles-first}
+use Rattle.pfml_fields.specs.Fields.{firstIn, lastIn, noRow}
+use Rattle.pfml_fields.specs.Tiling.{tiles, tiles-none, tiles-first}
 use Rattle.edits.specs.Edit.{Edit, firstBroken}
 use Rattle.edits.specs.EditLaws.{AllFine, fine-all, all-fine, all-append, FirstIn, first-of-list}
 use Rattle.edits.specs.Labelled.{own-labelled}
 use Rattle.edits.specs.Labels.{AllLabelled, none-labelled, more-labelled, labelled-append}
 use Rattle.edits.specs.Own.{own}
 use Rattle.edits.specs.declared.Marks.{Marks}
-use Rattle.record.specs.Judge.{rowsFor}
-use Rattle.record.specs.Kinds.{kindOf, marksOf, isKnown}
-use Rattle.record.specs.Letters.{kind-of-A, kind-of-E, kind-of-S}
+use Rattle.pfml.specs.Edits.{rowsFor}
+use Rattle.pfml.specs.Kinds.{kindOf, marksOf, isKnown}
+use Rattle.pfml.specs.Letters.{kind-of-A, kind-of-E, kind-of-S}
 use Rattle.step.specs.Moves.{allWell}
 use Rattle.write.specs.PartLaws.{puts-keep}
 use Rattle.write.specs.Records.{recordOf}

@@ -7,9 +7,9 @@ use edits::Marks;
 use edits::own;
 use field::class;
 use field::class::Class;
+use pfml::kind;
 use reason::Edit;
 use reason::Reason;
-use record::kind;
 use text::put;
 ghost use mathlib.Core.List.{map};
 ghost use mathlib.Core.Path.{_≡_};
@@ -21,12 +21,12 @@ ghost use Rattle.reason.specs.Numbers.{findingOf};
 ghost use Rattle.chars.specs.Characters.{capitals};
 ghost use Rattle.field.specs.Classes.{classOf};
 ghost use Rattle.field.specs.ClassTests.{classTest};
-ghost use Rattle.layout.specs.Fields.{classIn, firstIn, lastIn, noRow};
+ghost use Rattle.pfml_fields.specs.Fields.{classIn, firstIn, lastIn, noRow};
 ghost use Rattle.edits.specs.Edit.{firstBroken};
 ghost use Rattle.edits.specs.Tests.{ownRest};
 ghost use Rattle.edits.specs.Parts.{Wide};
-ghost use Rattle.record.specs.Judge.{rowsFor};
-ghost use Rattle.record.specs.Kinds.{kindOf, marksOf};
+ghost use Rattle.pfml.specs.Edits.{rowsFor};
+ghost use Rattle.pfml.specs.Kinds.{kindOf, marksOf};
 ghost use Rattle.text.specs.Put.{blanks};
 ghost use Rattle.write.specs.Records.{put as putPart, putAll};
 ghost use Rattle.build.specs.Values.{filled, fillRecord};
@@ -38,8 +38,8 @@ pub fn count(letter: u8) -> usize
     ensures { λ r. ⌜ r ≡ length (rowsFor (kindOf letter)) ⌝ }
 {
     let kind = kind::order_of(kind::kind_of(letter));
-    let from = layout::first_field(kind);
-    layout::first_field(kind + 1) - from
+    let from = pfml_fields::first_field(kind);
+    pfml_fields::first_field(kind + 1) - from
 }
 
 // The row of its field k, counted from 0; past the last, a field of no columns.
@@ -47,12 +47,12 @@ pub fn row_of(letter: u8, k: usize) -> [u16; 3]
     ensures { λ r. ⌜ r ≡ getD (rowsFor (kindOf letter)) k noRow ⌝ }
 {
     let kind = kind::order_of(kind::kind_of(letter));
-    let from = layout::first_field(kind);
-    let to = layout::first_field(kind + 1);
+    let from = pfml_fields::first_field(kind);
+    let to = pfml_fields::first_field(kind + 1);
     if to - from <= k {
         return [0, 0, 0];
     }
-    layout::row_at(from + k)
+    pfml_fields::row_at(from + k)
 }
 
 // An entry of the values, 0 past their end.
@@ -121,7 +121,7 @@ fn own_edits(marks: Marks, class: Class, line: &[u8], first: u16, last: u16) -> 
     let e = class::class_edit(class, line, first, last);
     match e {
         Edit::Broken(_, _) => e,
-        Edit::Passed => own::own_edit(marks, record::ENTITY, class, line, first, last),
+        Edit::Passed => own::own_edit(marks, pfml::ENTITY, class, line, first, last),
     }
 }
 

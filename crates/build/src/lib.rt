@@ -32,10 +32,10 @@ fn refused(column: u16, reason: Reason) -> Wrote
 fn build(letter: u8, values: &[u64], texts: &[u8], out: &mut [u8]) -> Wrote
     ensures { λ r. ⌜ writtenBy r (now (out .exit)) ≡ building letter (now (values .entry)) (now (texts .entry)) (now (out .entry)) ⌝ }
 {
-    if out.len() != layout::RECORD as usize {
+    if out.len() != pfml_fields::RECORD as usize {
         return refused(0, Reason::BuildLength);
     }
-    let mut line = [0; layout::RECORD as usize];
+    let mut line = [0; pfml_fields::RECORD as usize];
     fields::put_fields(letter, values, texts, &mut line);
     let found = fields::first_broken(letter, values, texts, &line);
     match found {

@@ -5,10 +5,10 @@ use number::Number;
 ghost use mathlib.Core.Path.{_≡_};
 ghost use lib.ListN.{length, getD};
 ghost use Rattle.chars.specs.Characters.{capitals};
-ghost use Rattle.layout.specs.Fields.{firstIn, lastIn, noRow};
+ghost use Rattle.pfml_fields.specs.Fields.{firstIn, lastIn, noRow};
 ghost use Rattle.number.specs.Numbers.{numberIn, readingOf};
-ghost use Rattle.record.specs.Judge.{rowsFor};
-ghost use Rattle.record.specs.Kinds.{kindOf};
+ghost use Rattle.pfml.specs.Edits.{rowsFor};
+ghost use Rattle.pfml.specs.Kinds.{kindOf};
 ghost use Rattle.build.specs.Values.{textIn};
 
 // Field k, counted from 0, of the record that a letter names, as a number.

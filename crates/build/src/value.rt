@@ -111,7 +111,7 @@ fn put_letter(line: &mut [u8], first: u16, last: u16, letter: u8)
 fn put_code(line: &mut [u8], first: u16, last: u16)
     ensures { λ _. ⌜ now (line .exit) ≡ putPart (partBy first last (valueBy Form.Code 0 0 [])) (now (line .entry)) ⌝ }
 {
-    let text = record::ENTITY;
+    let text = pfml::ENTITY;
     put_words(line, first, last, 4, &text)
 }
 

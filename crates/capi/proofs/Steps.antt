@@ -17,8 +17,7 @@ use denote.Struct.Laws as LL
 use Rattle.edits.specs.declared.Opening.{Opening}
 use Rattle.edits.proofs.Opening as O
 use Rattle.tables.specs.Room as room-of
-use Rattle.tables.proofs.Walk.{URA, Heap, Atoms, Given, Memory, Routine, Fun, SProp, Lft, Share, GName, Item, Env, RefT, Is, Triple, FmC, Asked, held, made, asks, named-as, KeptShared, lends-shared, shared-back, measures, fullShare}
-use Rattle.tables.proofs.Walk.{named, w64, vint, flft, runs, ‵, _$_, uint-makes, MutSlice, ShrSlice}
+use Rattle.tables.proofs.Walk.{URA, Heap, Atoms, Given, Memory, Routine, Fun, SProp, Lft, Share, GName, Item, Env, RefT, Is, Triple, FmC, Asked, held, made, asks, named-as, KeptShared, lends-shared, shared-back, measures, fullShare, named, w64, vint, flft, runs, ‵, _$_, uint-makes, MutSlice, ShrSlice}
 use Rattle.state.specs.Walks.{walkOf}
 use Rattle.state.specs.declared.State.{State}
 use Rattle.state.proofs.State as S

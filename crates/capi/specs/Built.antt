@@ -8,9 +8,9 @@ use Rattle.laws.specs.Finding.{value, refused}
 use Rattle.chars.specs.CharacterLaws.{capitals-again}
 use Rattle.chars.specs.Characters.{capitals}
 use Rattle.number.specs.Numbers.{numberIn}
-use Rattle.layout.specs.Fields.{firstIn, lastIn}
-use Rattle.record.specs.Judge.{rowsFor}
-use Rattle.record.specs.Kinds.{kindOf, isKnown}
+use Rattle.pfml_fields.specs.Fields.{firstIn, lastIn}
+use Rattle.pfml.specs.Edits.{rowsFor}
+use Rattle.pfml.specs.Kinds.{kindOf, isKnown}
 use Rattle.write.specs.Records.{recordOf}
 use Rattle.build.specs.Account.{account-read-back, no-account-reads, account-row, account-in-E, account-form}
 use Rattle.build.specs.Building.{partOf}

@@ -11,11 +11,11 @@ use Rattle.reason.specs.Numbers.{Notice, notice}
 use Rattle.lines.specs.Lines.{firstLine}
 use Rattle.chars.specs.Characters.{capitals}
 use Rattle.number.specs.Numbers.{numberIn}
-use Rattle.layout.specs.Fields.{firstIn, lastIn, noRow}
+use Rattle.pfml_fields.specs.Fields.{firstIn, lastIn, noRow}
 use Rattle.edits.specs.Formats.{formatOf}
 use Rattle.edits.specs.declared.Opening.{Opening}
-use Rattle.record.specs.Judge.{rowsFor}
-use Rattle.record.specs.Kinds.{kindOf}
+use Rattle.pfml.specs.Edits.{rowsFor}
+use Rattle.pfml.specs.Kinds.{kindOf}
 use Rattle.tables.specs.Room.{Tables}
 use Rattle.tables.specs.declared.Employer.{Employer}
 use Rattle.step.specs.Moves.{stays}

@@ -18,12 +18,16 @@ use Rattle.edits.specs.Formats.{isOfOpening}
 use Rattle.edits.specs.declared.Opening.{Opening}
 use Rattle.edits.specs.declared.Phase.{Phase}
 use Rattle.edits.specs.declared.Seen.{Seen}
-use Rattle.record.specs.Judge.{Judged, refusal, passed, judge, seenOn}
-use Rattle.record.specs.Numbered.{refusal-numbered, end-numbered}
-use Rattle.record.specs.Place.{endEdits}
+use Rattle.edits.specs.declared.format.Format.{Format}
+use Rattle.shape.specs.Shape.{Judged, refusal, passed}
+use Rattle.record.specs.Judge.{judge, seenOn}
+use Rattle.record.specs.Formats.{shapeOf}
+use Rattle.record.specs.Laws.{refusal-left, end-left}
+use Rattle.shape.specs.Ends.{endEdits}
 use Rattle.tables.specs.Room.{Room, Tables, roomOf}
 use Rattle.tables.specs.declared.Employer.{Employer}
 use Rattle.state.specs.Unfit.{unfit}
+use Rattle.state.specs.UnfitLaws.{edit-not-opening, edit-not-71, edit-not-72}
 use Rattle.state.specs.Walks.{Standing, reading, accepted, refused, Walk}
 use Rattle.words.specs.Theorems.{Unknown, unknown-unfit}
 use Rattle.words.specs.Words.{wordCount, wordsOf, putWords, walkIn}
@@ -88,18 +92,20 @@ opening-still number = at (eqb number 70) (eqb number 71) (eqb number 72) (eqb n
   at false false true d e = refl
   at false false false d e = e
 
-edit-moves : (number : ℕ) → (1 ≤ number) × (number ≤ 65) → isStill number ≡ true → ⊥
-edit-moves number within still =
-    let not-70 : number ≡ 70 → ⊥ = λ (e : number ≡ 70). omega (arith, e, within .1) in
-    let not-71 : number ≡ 71 → ⊥ = λ (e : number ≡ 71). omega (arith, e, within .1) in
-    let not-72 : number ≡ 72 → ⊥ = λ (e : number ≡ 72). omega (arith, e, within .1) in
-    let not-73 : number ≡ 73 → ⊥ = λ (e : number ≡ 73). omega (arith, e, within .1) in
-    let moves : isStill number ≡ false = rw (ne-eqb number 70 not-70, ne-eqb number 71 not-71, ne-eqb number 72 not-72, ne-eqb number 73 not-73) in
-    false≢true (sym moves ∙ still)
+edit-moves : (format : Format) (number : ℕ) → shapeOf format .isLeft number ≡ true → isStill number ≡ true → ⊥
+edit-moves format number left still = false≢true (sym moves ∙ still) where
+  still-by : (a d : Bool) → a || d ≡ false → a || false || false || d ≡ false
+  still-by true d e = e
+  still-by false d e = e
+
+  moves : isStill number ≡ false
+  moves =
+      rw (ne-eqb number 71 (edit-not-71 format number left), ne-eqb number 72 (edit-not-72 format number left))
+      (still-by (eqb number 70) (eqb number 73) (edit-not-opening format number left))
 
 module _ (room : Room) (walk : Walk) where
   line-verdict : (phase : Phase) (seen : Seen) (line : Line) (v : Judged) → judge (contextOf room walk phase) seen line ≡ v → Stands walk (byVerdict walk v)
-  line-verdict phase seen line (refusal column number) e still = absurd (edit-moves number (refusal-numbered _ _ line column number e) still)
+  line-verdict phase seen line (refusal column number) e still = absurd (edit-moves (walk .held .format) number (refusal-left _ seen line column number e) still)
   line-verdict phase seen line (passed taken said) e still = absurd (false≢true still)
 
   line-standing : (seen : Seen) (line : Line) (standing : Standing) → Stands walk (byStanding room seen line walk standing)
@@ -109,7 +115,7 @@ module _ (room : Room) (walk : Walk) where
 
   end-verdict : (phase : Phase) (found : Finding) → firstBroken (endEdits phase) ≡ found → Stands walk (endVerdict walk found)
   end-verdict phase fine e still = absurd (false≢true still)
-  end-verdict phase (broken column number) e still = absurd (edit-moves number (end-numbered phase column number e) still)
+  end-verdict phase (broken column number) e still = absurd (edit-moves (walk .held .format) number (end-left (walk .held .format) phase column number e) still)
 
   end-standing : (standing : Standing) → Stands walk (endStanding walk standing)
   end-standing (reading phase) = end-verdict phase _ refl
@@ -178,7 +184,7 @@ module _ (words answer : List ℕ) (t : Tables) (has : Called) where
   after m = called (carried m t) (stateAfter (carried m t) words) answer
 
   abbrev seen : Line → Seen
-  seen line = seenOn (listedFein (walkIn words) t) (listedId (walkIn words) t) (capitals (line .text))
+  seen line = seenOn (walkIn words .held .format) (listedFein (walkIn words) t) (listedId (walkIn words) t) (capitals (line .text))
 
   -- Words that tell no walk: 72.
   module _ (unknown : Unknown words) where

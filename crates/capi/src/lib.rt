@@ -98,7 +98,7 @@ fn wrote_numbers(wrote: Wrote) -> Numbers
     ensures { λ r. ⌜ r ≡ writtenNumbers (noticeOn wrote) ⌝ }
 {
     match wrote {
-        Wrote::Record => fine(layout::RECORD as u64),
+        Wrote::Record => fine(pfml_fields::RECORD as u64),
         Wrote::Refused(refusal) => refused(refusal),
     }
 }

@@ -19,13 +19,13 @@ use Rattle.number.specs.Numbers.{numberFrom, numberIn, valueIn}
 use Rattle.number.specs.Rules.{periodIn, flagIn, beginsWith69, isNineZeros, mayBeFiled}
 use Rattle.text.specs.Text.{allBlank, isIndented, isAsked, readsAs, hasPattern}
 use Rattle.field.specs.Classes.{classes, classOf}
-use Rattle.layout.specs.Fields.{fieldsOfA, fieldsOfE, fieldsOfS, fieldsOfT, fieldsOfF}
+use Rattle.pfml_fields.specs.Fields.{fieldsOfA, fieldsOfE, fieldsOfS, fieldsOfT, fieldsOfF}
 use Rattle.edits.specs.Fields.{ruleList, ruleOf}
 use Rattle.edits.specs.Lists.{fieldEdits}
 use Rattle.edits.specs.declared.Opening.{Opening}
 use Rattle.edits.specs.declared.format.Format.the-variants.{Pfml}
-use Rattle.record.specs.Kinds.{kindOf}
-use Rattle.record.specs.Rules.{rulesOfA, rulesOfE, rulesOfS, rulesOfT, rulesOfF}
+use Rattle.pfml.specs.Kinds.{kindOf}
+use Rattle.pfml_fields.specs.Rules.{rulesOfA, rulesOfE, rulesOfS, rulesOfT, rulesOfF}
 use Rattle.tables.specs.Room.{Room}
 use Rattle.tables.specs.Tables.{isAmong}
 use Rattle.meaning.specs.Meaning.{editsFrom, firstOfFile, recordsOnto, Outcome, accepted, refused, meaning}

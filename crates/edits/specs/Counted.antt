@@ -3,15 +3,15 @@ use Prim.Native.Nat.{ℕ}
 use Rattle.edits.specs.declared.Open.{Open}
 use Rattle.edits.specs.declared.Totals.{Totals}
 
--- The open E with so many S records under it and this sum.
-abbrev pub openWith : Open → ℕ → ℕ → Open
-openWith this count sum =
+-- The open E with so many S records under it and these two sums.
+abbrev pub openWith : Open → ℕ → ℕ → ℕ → Open
+openWith this count sum second =
     record {
       fein = this .fein;
       follow = this .follow;
       count = count;
       sum = sum;
-      second = this .second;
+      second = second;
       others = this .others;
       nearest = this .nearest;
       noted = this .noted;
@@ -19,14 +19,14 @@ openWith this count sum =
       «account_tail» = this .«account_tail»;
     }
 
--- The file with so many S records, so many E records and this sum.
-abbrev pub totalsWith : Totals → ℕ → ℕ → ℕ → Totals
-totalsWith all count employers sum =
-    record { count = count; employers = employers; sum = sum; second = all .second; others = all .others; notes = all .notes }
+-- The file with so many S records, so many E records and these two sums.
+abbrev pub totalsWith : Totals → ℕ → ℕ → ℕ → ℕ → Totals
+totalsWith all count employers sum second =
+    record { count = count; employers = employers; sum = sum; second = second; others = all .others; notes = all .notes }
 
--- Each but for the wages added up in it.
-abbrev pub openButWages : Open → Open
-openButWages this = openWith this (this .count) 0
+-- Each but for the amounts added up in it.
+abbrev pub openButSums : Open → Open
+openButSums this = openWith this (this .count) 0 0
 
-abbrev pub totalsButWages : Totals → Totals
-totalsButWages all = totalsWith all (all .count) (all .employers) 0
+abbrev pub totalsButSums : Totals → Totals
+totalsButSums all = totalsWith all (all .count) (all .employers) 0 0

@@ -1,12 +1,13 @@
--- What holds of an opening that is not refused, and when one is not.
-use mathlib.Core.Bool.{true}
-use mathlib.Core.Path.{_≡_}
+-- What holds of an opening that is not refused, when one is not, and that a format which is PFML by its test is PFML.
+use mathlib.Core.Bool.{true, false≢true}
+use mathlib.Core.Path.{_≡_, refl}
 use Rattle.laws.specs.Choice.{both-hold}
 use Rattle.calendar.specs.Quarters.{isAllowed}
 use Rattle.calendar.specs.declared.Quarter.{Quarter}
-use Rattle.edits.specs.Formats.{isKnown, quarterHeld, openingWith, mayOpen}
+use Rattle.edits.specs.Formats.{isKnown, isPfml, quarterHeld, openingWith, mayOpen}
 use Rattle.edits.specs.declared.Opening.{Opening}
 use Rattle.edits.specs.declared.format.Format.{Format}
+use Rattle.edits.specs.declared.format.Format.the-variants.{Pfml, Unknown}
 
 pub opens-known : (held : Opening) → mayOpen held ≡ true → isKnown (held .format) ≡ true
 unfolding mayOpen
@@ -16,3 +17,7 @@ opens-known held e = both-hold (isAllowed (quarterHeld held)) (isKnown (held .fo
 pub quarter-opens : (format : Format) (quarter : Quarter) → isKnown format ≡ true → isAllowed quarter ≡ true → mayOpen (openingWith format quarter) ≡ true
 unfolding mayOpen
 quarter-opens format quarter known allowed = rw (allowed, known)
+
+pub pfml-is : (format : Format) → isPfml format ≡ true → format ≡ Pfml
+pfml-is Pfml e = refl
+pfml-is Unknown e = absurd (false≢true e)

@@ -23,6 +23,11 @@ abbrev pub isKnown : Format → Bool
 isKnown Pfml = true
 isKnown Unknown = false
 
+-- Whether it is PFML.
+abbrev pub isPfml : Format → Bool
+isPfml Pfml = true
+isPfml Unknown = false
+
 -- The last closed quarter that a walk is opened with; and an opening of a format and a quarter.
 abbrev pub quarterHeld : Opening → Quarter
 quarterHeld held = record { year = held .year; month = held .month }

@@ -2,7 +2,7 @@
 use crate::Opening;
 use calendar::Quarter;
 ghost use mathlib.Core.Path.{_≡_};
-ghost use Rattle.edits.specs.Formats.{formatOf, formatNumber, isKnown, quarterHeld, mayOpen};
+ghost use Rattle.edits.specs.Formats.{formatOf, formatNumber, isKnown, isPfml, quarterHeld, mayOpen};
 
 // `Unknown` is no format: it is what a number says that names none.
 pub enum Format {
@@ -33,6 +33,16 @@ pub fn number_of(format: Format) -> u64
 // Whether it is a format.
 pub fn is_known(format: Format) -> bool
     ensures { λ r. ⌜ r ≡ isKnown format ⌝ }
+{
+    match format {
+        Format::Pfml => true,
+        Format::Unknown => false,
+    }
+}
+
+// Whether it is PFML.
+pub fn is_pfml(format: Format) -> bool
+    ensures { λ r. ⌜ r ≡ isPfml format ⌝ }
 {
     match format {
         Format::Pfml => true,

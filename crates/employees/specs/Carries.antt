@@ -11,6 +11,7 @@ use Rattle.reason.specs.Numbers.{Notice}
 use Rattle.lines.specs.Lines.{firstLine}
 use Rattle.edits.specs.declared.Phase.the-variants.{EOpen}
 use Rattle.chars.specs.Characters.{capitals}
+use Rattle.record.specs.Formats.{shapeOf}
 use Rattle.record.specs.Judge.{seenOn}
 use Rattle.plain.specs.Laws.{long-enough}
 use Rattle.plain.specs.Plain.{lowest, highest}
@@ -54,7 +55,7 @@ module _ (walk : Walk) (ids : List ℕ) (list : List Employer) (s : List ℕ) (t
   line-moves : lineMoved (roomOf lent) (listedFein walk lent) (listedId walk lent) walk (firstLine s)
       ≡ goesOn walk (sightUnder walk s .taken) (saidIn (sightUnder walk s))
   line-moves =
-      line-fit (roomOf lent) walk (seenOn (listedFein walk lent) (listedId walk lent) (capitals (firstLine s .text))) (firstLine s) (reading EOpen)
+      line-fit (roomOf lent) walk (seenOn (walk .held .format) (listedFein walk lent) (listedId walk lent) (capitals (firstLine s .text))) (firstLine s) (reading EOpen)
       (t .waits .fit) (t .waits .stands)
       ∙ ap (byVerdict walk) (plain-line (length list) walk ids s t (listedFein walk lent))
 
@@ -70,8 +71,8 @@ module _ (walk : Walk) (ids : List ℕ) (list : List Employer) (s : List ℕ) (t
 
 -- ---- the run
 module _ (s : List ℕ) (list : List Employer) (P : ℕ → Walk → Tables → Type 0)
-    (each : (at : ℕ) (walk : Walk) (t : Tables) (next : Out) → 292 ≤ length (drop at s) → next ≡ lineStep walk (firstLine (drop at s)) t
-    → (next .taken ≡ 0 → ⊥) → P at walk t → P (at + next .taken) (next .walk) (next .left)) where
+    (each : (at : ℕ) (walk : Walk) (t : Tables) (next : Out) → shapeOf (walk .held .format) .length + 2 ≤ length (drop at s)
+    → next ≡ lineStep walk (firstLine (drop at s)) t → (next .taken ≡ 0 → ⊥) → P at walk t → P (at + next .taken) (next .walk) (next .left)) where
   abbrev Holds : Reached → Type 0
   Holds r = P (r .at) (r .walk) (tables (r .ids) list)
 
@@ -80,7 +81,7 @@ module _ (s : List ℕ) (list : List Employer) (P : ℕ → Walk → Tables → 
       let v = sightAt s r in
       let t = takes-parts (roomFor (r .ids) (length list)) (r .walk) (r .ids) v e in
       let long = long-enough (lowest (r .walk .open .fein) (r .walk .filed)) (highest (r .walk .open .fein) (r .walk .filed)) (drop (r .at) s) (t .some) in
-      each (r .at) (r .walk) (tables (r .ids) list) (taken (r .walk) (r .ids) v list) long
+      each (r .at) (r .walk) (tables (r .ids) list) (taken (r .walk) (r .ids) v list) (rw (t .waits .pfml) long)
       (sym (line-taken (r .walk) (r .ids) list (drop (r .at) s) t)) (t .some) holds
 
   run-holds : (n : ℕ) (r : Reached) → Holds r → Holds (onward s (length list) n r)
@@ -125,8 +126,8 @@ behind-run s n a ids run more some e =
     ∙ sym (behind-taken s n (leftBy a ids) some)
 
 pub behind-carries : (s : List ℕ) (list : List Employer) (o : Left) (P : ℕ → Walk → Tables → Type 0)
-    → ((at : ℕ) (walk : Walk) (t : Tables) (next : Out) → 292 ≤ length (drop at s) → next ≡ lineStep walk (firstLine (drop at s)) t
-    → (next .taken ≡ 0 → ⊥) → P at walk t → P (at + next .taken) (next .walk) (next .left))
+    → ((at : ℕ) (walk : Walk) (t : Tables) (next : Out) → shapeOf (walk .held .format) .length + 2 ≤ length (drop at s)
+    → next ≡ lineStep walk (firstLine (drop at s)) t → (next .taken ≡ 0 → ⊥) → P at walk t → P (at + next .taken) (next .walk) (next .left))
     → (o .taken ≡ 0 → ⊥) → P (o .taken) (o .walk) (tables (o .ids) list)
     → P (behind s (length list) o .taken) (behind s (length list) o .walk) (tables (behind s (length list) o .ids) list)
 behind-carries s list o P each some holds =

@@ -20,7 +20,8 @@ use Rattle.tables.specs.Tables.{isAmong}
 use Rattle.laws.specs.Choice.{if_then_else_}
 use Rattle.plain.specs.declared.Sighted.{Sighted}
 use Rattle.state.specs.Walks.{Walk}
-use Rattle.step.specs.Moves.{oneUsed, changeBy}
+use Rattle.shape.specs.After.{oneUsed}
+use Rattle.step.specs.Moves.{changeBy}
 use Rattle.step.specs.Steps.{idsAfter}
 use Rattle.step.specs.declared.Change.the-variants.{Nothing, Adds}
 use Rattle.employees.specs.Marks.{markOf, hasBit, withBit, isSet, isMarked, withSet, withMark, withMarks, Covers}

@@ -9,22 +9,34 @@ use native.Mathlib.Omega.{arith}
 use lib.Dec.{eqb, leb, ltb}
 use lib.ListN.{length, take, drop, length-drop, length-set}
 use lib.Seq.{take-all}
-use borrow.Author.Tests.{ltb-true, lt-ltb, lt-leb, eq-eqb, eqb-true, eqb-false, not-true}
+use borrow.Author.Tests.{ltb-true, lt-ltb, lt-leb, eqb-true, eqb-false, not-true}
 use Rattle.laws.specs.Choice.{if_then_else_, both-hold}
 use Rattle.lines.specs.Lines.{firstLine}
 use Rattle.chars.specs.Characters.{capitals}
+use Rattle.edits.specs.FormatLaws.{pfml-is}
+use Rattle.edits.specs.Formats.{isPfml}
+use Rattle.edits.specs.declared.Context.{Context}
 use Rattle.edits.specs.declared.Phase.the-variants.{BeforeA, AfterA, EOpen, AfterT, AfterF}
-use Rattle.record.specs.Judge.{passed, judgeAmong, seenOn}
-use Rattle.record.specs.Place.{mostEmployees}
-use Rattle.plain.specs.Laws.{plain-passes, wages-below}
+use Rattle.edits.specs.declared.Seen.{Seen}
+use Rattle.edits.specs.declared.format.Format.the-variants.{Pfml}
+use Rattle.shape.specs.After.{openAfter, usedAfter, totalsAfter}
+use Rattle.shape.specs.Limits.{mostEmployees}
+use Rattle.shape.specs.Shape.{passed}
+use Rattle.shape.specs.declared.Said.{Said}
+use Rattle.pfml.specs.Fitness.{mostLines}
+use Rattle.record.specs.Formats.{shapeOf}
+use Rattle.record.specs.Judge.{judgeAmong, seenOn}
+use Rattle.record.specs.Laws.{judged-bounded, more-kept}
+use Rattle.plain.specs.Laws.{plain-passes}
 use Rattle.plain.specs.Plain.{lowest, highest, fits}
 use Rattle.plain.specs.declared.Sighted.{Sighted}
 use Rattle.tables.specs.Room.{Room}
 use Rattle.tables.specs.Tables.{isAmong}
-use Rattle.state.specs.Unfit.{mostLines, isOpen, unfit}
-use Rattle.state.specs.UnfitLaws.{fit-file, fit-open, fit-standing, sound-fit}
+use Rattle.state.specs.Cents.{one-more}
+use Rattle.state.specs.Unfit.{isOpen, unfit}
+use Rattle.state.specs.UnfitLaws.{fit-file, fit-open, fit-more, fit-standing, sound-fit}
 use Rattle.state.specs.Walks.{Standing, reading, accepted, refused, Walk}
-use Rattle.step.specs.Moves.{contextOf, walkAfter, changeBy, oneUsed}
+use Rattle.step.specs.Moves.{contextOf, walkAfter, changeBy}
 use Rattle.step.specs.Ready.{Ready}
 use Rattle.step.specs.ReadyLaws.{passed-ready}
 use Rattle.step.specs.Steps.{idsAfter}
@@ -42,6 +54,7 @@ open-standing accepted e = absurd (false≢true e)
 open-standing (refused says) e = absurd (false≢true e)
 
 pub record Awaits (room : Room) (walk : Walk) : Type 0 where
+  pub pfml : walk .held .format ≡ Pfml
   pub fit : unfit room walk ≡ false
   pub stands : walk .standing ≡ reading EOpen
   pub follow : walk .open .follow ≡ true
@@ -49,10 +62,12 @@ pub record Awaits (room : Room) (walk : Walk) : Type 0 where
 
 pub awaits-parts : (room : Room) (walk : Walk) → awaits room walk ≡ true → Awaits room walk
 awaits-parts room walk e =
-    let a = both-hold (not (unfit room walk)) _ e in
+    let f = both-hold (isPfml (walk .held .format)) _ e in
+    let a = both-hold (not (unfit room walk)) _ (f .1) in
     let b = both-hold (isOpen (walk .standing)) _ (a .1) in
     let c = both-hold (walk .open .follow) _ (b .1) in
     record {
+      pfml = pfml-is _ (f .0);
       fit = not-true _ (a .0);
       stands = open-standing _ (b .0);
       follow = c .0;
@@ -60,7 +75,7 @@ awaits-parts room walk e =
     }
 
 pub parts-await : (room : Room) (walk : Walk) → Awaits room walk → awaits room walk ≡ true
-parts-await room walk a = rw (a .fit, a .stands, a .follow, a .fits)
+parts-await room walk a = rw (a .fit, a .pfml, a .stands, a .follow, a .fits)
 
 -- ---- a line that the walk takes
 -- An identity number that is none, or new with room for it.
@@ -105,43 +120,64 @@ abbrev pub roomFor : List ℕ → ℕ → Room
 roomFor ids list = record { ids = length ids; list = list }
 
 module _ (list : ℕ) (walk : Walk) (ids : List ℕ) (s : List ℕ) (t : Taking (roomFor ids list) walk ids (sightUnder walk s)) where
+  abbrev here : Context
+  here = contextOf (roomFor ids list) walk EOpen
+
+  abbrev under : ℕ → Bool
+  under id = isAmong id (take (walk .used) ids)
+
+  abbrev said : Said
+  said = saidIn (sightUnder walk s)
+
   -- Its record passes every edit, whatever stands on the employer list.
-  pub plain-line : (earlier : ℕ → Bool) → judgeAmong (contextOf (roomFor ids list) walk EOpen) earlier (λ id. isAmong id (take (walk .used) ids)) (firstLine s)
-      ≡ passed (sightUnder walk s .taken) (saidIn (sightUnder walk s))
+  pub plain-line : (earlier : ℕ → Bool) → judgeAmong here earlier under (firstLine s) ≡ passed (sightUnder walk s .taken) said
   plain-line earlier =
-      plain-passes (contextOf (roomFor ids list) walk EOpen) earlier (λ id. isAmong id (take (walk .used) ids)) s refl (t .waits .follow) (t .waits .fits)
-      (lt-ltb _ _ (t .many)) (t .some) (new-under (λ id. isAmong id (take (walk .used) ids)) _ (walk .used) (length ids) (t .new))
+      plain-passes here earlier under s (t .waits .pfml) refl (t .waits .follow) (t .waits .fits)
+      (lt-ltb _ _ (t .many)) (t .some) (new-under under _ (walk .used) (length ids) (t .new))
+
+  -- What was seen before, if nothing stood on it.
+  abbrev seen : Seen
+  seen = seenOn (walk .held .format) (λ fein. false) under (capitals (firstLine s .text))
 
   -- No sum wraps.
-  pub taken-ready : length ids < 2 ^ 64 → Ready walk (saidIn (sightUnder walk s))
+  pub taken-ready : length ids < 2 ^ 64 → Ready walk said
   taken-ready short =
-      passed-ready (roomFor ids list) walk EOpen (t .waits .stands) (t .waits .fit) short
-      (seenOn (λ fein. false) (λ id. isAmong id (take (walk .used) ids)) (capitals (firstLine s .text))) (firstLine s) _ _ (plain-line (λ fein. false))
+      passed-ready (roomFor ids list) walk EOpen (t .waits .stands) (t .waits .fit) short seen (firstLine s) _ _ (plain-line (λ fein. false))
 
   -- ---- after it
-  ids-within : oneUsed (walk .used) (sightUnder walk s .id) ≤ length ids
-  ids-within = elim (t .new) [
-    | inl none ↦ rw (eq-eqb _ _ none) (fit-open (roomFor ids list) walk (t .waits .fit) (ap isOpen (t .waits .stands)) .ids-fit)
-    | inr new ↦ least (eqb (sightUnder walk s .id) 0) (new .0)
-  ] where
-    least : (none : Bool) → walk .used < length ids → (if none then walk .used else walk .used + 1) ≤ length ids
-    least true h = omega arith
-    least false h = omega arith
+  -- No clause of 72 that is the format's own comes to hold: the ids in use fit their table.
+  still-within : shapeOf (walk .held .format) .unfitMore (length ids) (usedAfter said (walk .used)) true (totalsAfter said (walk .all)) (openAfter said (walk .open))
+      ≡ false
+  still-within =
+      more-kept here seen (firstLine s) _ said (plain-line (λ fein. false)) (length ids) (walk .used) refl
+      (rw (t .waits .stands) at (fit-more (roomFor ids list) walk (t .waits .fit)))
 
   -- The walk awaits S records again.
-  pub still-awaits : Awaits (roomFor ids list) (walkAfter (saidIn (sightUnder walk s)) walk)
+  pub still-awaits : Awaits (roomFor ids list) (walkAfter said walk)
   still-awaits =
-      let wages = wages-below (walk .open .fein) (walk .filed) s in
+      let format = walk .held .format in
+      let wages = judged-bounded here seen (firstLine s) _ said (plain-line (λ fein. false)) .1 in
       let file = fit-file (roomFor ids list) walk (t .waits .fit) in
       let this = fit-open (roomFor ids list) walk (t .waits .fit) (ap isOpen (t .waits .stands)) in
-      let within = ids-within in
       let many = t .many in
-      let read = t .read in
+      let read : walk .lines < shapeOf format .mostLines = rw (t .waits .pfml) (t .read) in
       record {
+        pfml = t .waits .pfml;
         fit =
-            sound-fit (roomFor ids list) (walkAfter (saidIn (sightUnder walk s)) walk)
-            (record { employers = file .employers; many = omega arith; sum = omega arith; lines-read = omega arith })
-            (λ o. record { ids-fit = within; under = omega arith; under-sum = omega arith; some = this .some; fein = this .fein })
+            sound-fit (roomFor ids list) (walkAfter said walk)
+            (record {
+              employers = file .employers;
+              many = omega arith;
+              sum = one-more (walk .all .count) (shapeOf format .mostCents) (walk .all .sum) (sightUnder walk s .wages) (file .sum) wages;
+              lines-read = omega arith;
+            })
+            (λ o. record {
+              under = omega arith;
+              under-sum = one-more (walk .open .count) (shapeOf format .mostCents) (walk .open .sum) (sightUnder walk s .wages) (this .under-sum) wages;
+              some = this .some;
+              fein = this .fein;
+            })
+            still-within
             (rw (t .waits .stands) at (fit-standing (roomFor ids list) walk (t .waits .fit)));
         stands = refl;
         follow = t .waits .follow;

@@ -1,5 +1,5 @@
--- Follows the code; need not be believed. A run of S records under one employer, each found good by one sweep, taken one after the other as a call for
--- each of them would take it.
+-- Follows the code; need not be believed. A run of PFML's S records under one employer, each found good by one sweep, taken one after the other as a
+-- call for each of them would take it.
 use Prim.Native.Nat.{ℕ, zero, suc, _+_}
 use mathlib.Core.Bool.{Bool, not, _&&_, _||_}
 use mathlib.Core.List.{List}
@@ -7,14 +7,16 @@ use lib.Dec.{eqb, ltb}
 use lib.ListN.{length, take, drop}
 use Rattle.laws.specs.Choice.{if_then_else_}
 use Rattle.reason.specs.Numbers.{Notice}
-use Rattle.record.specs.Place.{mostEmployees}
-use Rattle.record.specs.declared.said.Said.{Said}
-use Rattle.record.specs.declared.said.Said.the-variants.{OfS}
+use Rattle.edits.specs.Formats.{isPfml}
+use Rattle.shape.specs.Limits.{mostEmployees}
+use Rattle.shape.specs.declared.Said.{Said}
+use Rattle.shape.specs.declared.Said.the-variants.{OfS}
+use Rattle.pfml.specs.Fitness.{mostLines}
 use Rattle.plain.specs.Plain.{lowest, highest, fits, sight}
 use Rattle.plain.specs.declared.Sighted.{Sighted}
 use Rattle.tables.specs.Room.{Room}
 use Rattle.tables.specs.Tables.{isAmong}
-use Rattle.state.specs.Unfit.{mostLines, isOpen, unfit}
+use Rattle.state.specs.Unfit.{isOpen, unfit}
 use Rattle.state.specs.Walks.{Walk, walkOf}
 use Rattle.step.specs.Moves.{noticeIn, takenIn, walkAfter, changeBy}
 use Rattle.step.specs.Steps.{idsAfter}
@@ -22,9 +24,11 @@ use Rattle.step.specs.declared.Answer.{Answer}
 use Rattle.employees.specs.declared.Run.{Run}
 
 -- ---- when a walk takes a plain S record
--- It stands under an E that says that S records follow, and its state is fit.
+-- It is of PFML, stands under an E that says that S records follow, and its state is fit.
 abbrev pub awaits : Room → Walk → Bool
-awaits room walk = not (unfit room walk) && (isOpen (walk .standing) && (walk .open .follow && fits (walk .open .fein) (walk .filed)))
+awaits room walk =
+    isPfml (walk .held .format)
+    && (not (unfit room walk) && (isOpen (walk .standing) && (walk .open .follow && fits (walk .open .fein) (walk .filed))))
 
 -- The identity number is none, or new and there is room for it.
 abbrev pub isNew : Walk → List ℕ → ℕ → Bool
@@ -43,7 +47,7 @@ abbrev pub sightUnder : Walk → List ℕ → Sighted
 sightUnder walk s = sight (lowest (walk .open .fein) (walk .filed)) (highest (walk .open .fein) (walk .filed)) s
 
 abbrev pub saidIn : Sighted → Said
-saidIn s = OfS (record { id = s .id; wages = s .wages })
+saidIn s = OfS (record { id = s .id; wages = s .wages; second = 0 })
 
 -- Where a run stands: the place in the bytes, the state, and the id table.
 pub record Reached : Type 0 where

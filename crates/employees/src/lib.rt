@@ -1,9 +1,11 @@
-// A run of S records under one employer, each found good by one sweep.
+// A run of PFML's S records under one employer, each found good by one sweep.
 mod marks;
 
 use edits::Open;
 use edits::Phase;
 use edits::Totals;
+use edits::format;
+use pfml::fitness::MOST_LINES;
 use plain::Sighted;
 use state::Stage;
 use state::State;
@@ -18,7 +20,8 @@ ghost use lib.Dec.{eqb, ltb};
 ghost use lib.ListN.{length, take, drop};
 ghost use Rattle.tables.specs.Tables.{isAmong};
 ghost use Rattle.state.specs.Walks.{walkOf};
-ghost use Rattle.step.specs.Moves.{walkAfter, changeBy, oneUsed};
+ghost use Rattle.shape.specs.After.{oneUsed};
+ghost use Rattle.step.specs.Moves.{walkAfter, changeBy};
 ghost use Rattle.step.specs.Ready.{Ready};
 ghost use Rattle.step.specs.Steps.{idsAfter};
 ghost use Rattle.employees.specs.Marks.{Covers};
@@ -31,12 +34,17 @@ pub struct Run {
     pub at: usize,
 }
 
-// Whether a walk takes S records at all: an E is open that says that they follow, and the state is fit.
+// Whether a walk takes S records at all: it is of PFML, an E is open that says that they follow, and the state is fit.
 fn awaits(st: State, ids: usize, list: usize) -> bool
     ensures { λ r. ⌜ r ≡ awaits (record { ids = ids; list = list }) (walkOf st) ⌝ }
 {
+    let held = st.held;
+    let format = held.format;
     let stage = st.stage;
     let open = st.open;
+    if !format::is_pfml(format) {
+        return false;
+    }
     if !fitness::is_open(stage) {
         return false;
     }
@@ -55,7 +63,7 @@ fn has_room(st: State) -> bool
 {
     let all = st.all;
     if all.count < fitness::MOST_EMPLOYEES {
-        return st.lines < fitness::MOST_LINES;
+        return st.lines < MOST_LINES;
     }
     false
 }
@@ -101,7 +109,7 @@ fn one_used(used: usize, id: u64) -> usize
     used + 1
 }
 
-// The state with one S more.
+// The state with one S more. PFML's says no second amount.
 fn with_one(st: State, s: Sighted) -> State
     requires { ⌜ Ready (walkOf st) (saidIn s) ⌝ }
     ensures { λ r. ⌜ walkOf r ≡ walkAfter (saidIn s) (walkOf st) ⌝ }

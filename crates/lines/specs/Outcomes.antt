@@ -1,7 +1,8 @@
 -- The four outcomes of cutting a line, and what is known of a line that is taken.
 use Prim.Native.Nat.{ℕ, _+_, _≤_, _<_, min}
 use mathlib.Core.Bool.{Bool, true, false}
-use mathlib.Core.Path.{_≡_, refl}
+use mathlib.Core.Logic.{_⊎_, inl, inr}
+use mathlib.Core.Path.{_≡_, refl, sym}
 use native.Mathlib.Omega.{arith}
 use borrow.Author.Tests.{eqb-true, eqb-false, eq-eqb, ne-eqb}
 use lib.Dec.{eqb}
@@ -59,6 +60,17 @@ taken-is-size n bytes line e = let is = taken n bytes line e in (is .0, is .1)
 -- "Each line has 290 characters and an end, the last one too."
 pub taken-has-end : (n bytes : ℕ) (line : Line) → cutting n line ≡ value bytes → 1 ≤ length (line .ending)
 taken-has-end n bytes line e = taken n bytes line e .2
+
+-- A line that is refused is refused by its length, 1, or its end, 2.
+by-number : (right missing : Bool) (size a b column number : ℕ)
+    → (if right then (if missing then refused b 2 else value size) else refused a 1) ≡ refused column number → (number ≡ 1) ⊎ (number ≡ 2)
+by-number true true size a b column number e = inr cc
+by-number true false size a b column number e = absurd (not-taken column number size (sym e))
+by-number false missing size a b column number e = inl cc
+
+pub refused-number : (n : ℕ) (line : Line) (column number : ℕ) → cutting n line ≡ refused column number → (number ≡ 1) ⊎ (number ≡ 2)
+unfolding cutting
+refused-number n line column number e = by-number (eqb (length (line .text)) n) (eqb (length (line .ending)) 0) _ _ _ column number e
 
 -- Cutting is two edits in order: the length, then the end.
 in-parts : (right missing : Bool) (size a b : ℕ)

@@ -15,21 +15,23 @@ use Rattle.edits.specs.declared.Opening.{Opening}
 use Rattle.edits.specs.declared.Phase.{Phase}
 use Rattle.edits.specs.declared.Phase.the-variants.{BeforeA, AfterA, EOpen, AfterT, AfterF}
 use Rattle.edits.specs.declared.Totals.{Totals}
-use Rattle.record.specs.Among.{passed-size}
-use Rattle.record.specs.Judge.{Judged, refusal, passed, recordOn}
-use Rattle.record.specs.Passed.{Fits, passed-fits}
-use Rattle.record.specs.PlaceTables.{endTest, end-parts}
-use Rattle.record.specs.declared.said.EmployeeOn.{EmployeeOn}
-use Rattle.record.specs.declared.said.EmployerOn.{EmployerOn}
-use Rattle.record.specs.declared.said.Said.{Said}
-use Rattle.record.specs.declared.said.Said.the-variants.{OfA, OfE, OfS, OfT, OfF, OfNone}
+use Rattle.record.specs.Laws.{passed-size, passed-fits}
+use Rattle.shape.specs.Shape.{Judged, refusal, passed}
+use Rattle.record.specs.Judge.{recordOn}
+use Rattle.shape.specs.Fits.{Fits}
+use Rattle.shape.specs.EndLaws.{endTest, end-parts}
+use Rattle.shape.specs.declared.EmployeeOn.{EmployeeOn}
+use Rattle.shape.specs.declared.EmployerOn.{EmployerOn}
+use Rattle.shape.specs.declared.Said.{Said}
+use Rattle.shape.specs.declared.Said.the-variants.{OfA, OfE, OfS, OfT, OfF, OfNone}
 use Rattle.tables.specs.Last.{closed-behind}
 use Rattle.tables.specs.Room.{Room}
 use Rattle.tables.specs.Tables.{closedLast}
 use Rattle.tables.specs.declared.Employer.{Employer}
-use Rattle.meaning.specs.Before.{phaseIn, opened, withOne, openIn, noTotals, oneEmployer, oneEmployee, totalsIn, entryAtE, entriesIn}
+use Rattle.shape.specs.After.{opened, withOne, noTotals, oneEmployer, oneEmployee}
+use Rattle.meaning.specs.Before.{phaseIn, openIn, totalsIn, entryAtE, entriesIn}
 use Rattle.meaning.specs.FileLaws.{records-reversed, meaning-end, meaning-refuses, meaning-goes-on}
-use Rattle.meaning.specs.Forward.{recordsOf, employeesAfter, wagesOf, entryOf, employersOf, employeesOf, totalsOf}
+use Rattle.meaning.specs.Forward.{recordsOf, employeesAfter, wagesOf, secondsOf, entryOf, employersOf, employeesOf, totalsOf}
 use Rattle.meaning.specs.Meaning.{contextAt, onEarlierE, underThisE, judgeAt, fileEdits, FileFinding, nothing, found, foundOn, firstOfFile, recordsOnto, accepted, outcomeBy, meaningFrom, meaning}
 use Rattle.meaning.specs.Theorems.{not-refused}
 
@@ -59,8 +61,8 @@ at-end AfterF line p entries totals e = refl
 
 module _ (room : Room) (held : Opening) where
   -- A record that passes is in its place.
-  in-place : (p : List Said) (said : Said) → Fits (contextAt room held p) (onEarlierE p) (underThisE p) said → InPlace (phaseIn p) said
-  in-place p (OfA quarter) fits = fits .0
+  in-place : (p : List Said) (said : Said) → Fits (contextAt room held p) said → InPlace (phaseIn p) said
+  in-place p (OfA quarter) fits = fits
   in-place p (OfE employer) fits = fits .0
   in-place p (OfS employee) fits = fits .0
   in-place p OfT fits = fits
@@ -69,9 +71,9 @@ module _ (room : Room) (held : Opening) where
 
   -- No line of an accepted file is refused.
   line-passes : (p : List Said) (line : Line) (lines : List Line) (entries : List Employer) (totals : Totals)
-      → meaningFrom room held p (line ∷ lines) ≡ accepted entries totals → judgeAt room held p line ≡ passed (sizeOf line) (recordOn line)
+      → meaningFrom room held p (line ∷ lines) ≡ accepted entries totals → judgeAt room held p line ≡ passed (sizeOf line) (recordOn (held .format) line)
   line-passes p line lines entries totals e = at (judgeAt room held p line) refl where
-    at : (j : Judged) → judgeAt room held p line ≡ j → judgeAt room held p line ≡ passed (sizeOf line) (recordOn line)
+    at : (j : Judged) → judgeAt room held p line ≡ j → judgeAt room held p line ≡ passed (sizeOf line) (recordOn (held .format) line)
     at (refusal column number) told =
         absurd (not-refused entries totals (notice number (length p + 1) column) (sym e ∙ meaning-refuses room held p line lines column number told))
     at (passed taken said) told =
@@ -80,11 +82,11 @@ module _ (room : Room) (held : Opening) where
 
   -- So each of its records is in its place.
   all-placed : (p : List Said) (lines : List Line) (entries : List Employer) (totals : Totals)
-      → meaningFrom room held p lines ≡ accepted entries totals → Placed p (map recordOn lines)
+      → meaningFrom room held p lines ≡ accepted entries totals → Placed p (map (recordOn (held .format)) lines)
   all-placed p [] entries totals e =
       at-end (phaseIn p) (length p + 1) p entries totals (rw (← end-parts (phaseIn p)) (sym (meaning-end room held p) ∙ e))
   all-placed p (line ∷ lines) entries totals e =
-      let said = recordOn line in
+      let said = recordOn (held .format) line in
       let told = line-passes p line lines entries totals e in
       let fits = passed-fits (contextAt room held p) (onEarlierE p) (underThisE p) line (sizeOf line) said told in
       let left = sym (meaning-goes-on room held p line lines (sizeOf line) said told) ∙ e in
@@ -93,7 +95,7 @@ module _ (room : Room) (held : Opening) where
 -- ---- the employers
 -- The open E with the S records that are still to come under it.
 abbrev withAll : Open → List EmployeeOn → Open
-withAll this employees = openWith this (this .count + length employees) (this .sum + wagesOf employees)
+withAll this employees = openWith this (this .count + length employees) (this .sum + wagesOf employees) (this .second + secondsOf employees)
 
 -- An S record is counted whether it stands before or is to come.
 with-one-more : (employee : EmployeeOn) (this : Open) (employees : List EmployeeOn)
@@ -101,6 +103,7 @@ with-one-more : (employee : EmployeeOn) (this : Open) (employees : List Employee
 with-one-more employee this employees =
     let count : this .count + 1 + length employees ≡ this .count + length (employee ∷ employees) = omega arith in
     let sum : this .sum + employee .wages + wagesOf employees ≡ this .sum + (employee .wages + wagesOf employees) = omega arith in
+    let second : this .second + employee .second + secondsOf employees ≡ this .second + (employee .second + secondsOf employees) = omega arith in
     cc
 
 -- Nothing more is under it at T.
@@ -187,6 +190,7 @@ employee-more employee all records =
     let employees = employeesOf records in
     let count : all .count + 1 + length employees ≡ all .count + length (employee ∷ employees) = omega arith in
     let sum : all .sum + employee .wages + wagesOf employees ≡ all .sum + (employee .wages + wagesOf employees) = omega arith in
+    let second : all .second + employee .second + secondsOf employees ≡ all .second + (employee .second + secondsOf employees) = omega arith in
     cc
 
 -- The totals at the end: those before, and those of the records to come.
@@ -208,10 +212,10 @@ says-so (found line column number) p entries totals e = absurd (not-refused entr
 
 module _ (room : Room) (held : Opening) (file : List ℕ) (entries : List Employer) (totals : Totals) where
   -- "Then the employers reported are those of its E records, the counts and wage totals those of the S records under each."
-  pub employers-are : meaning room held file ≡ accepted entries totals → (entries ≡ employersOf (recordsOf file)) × (totals ≡ totalsOf (recordsOf file))
+  pub employers-are : meaning room held file ≡ accepted entries totals → (entries ≡ employersOf (recordsOf (held .format) file)) × (totals ≡ totalsOf (recordsOf (held .format) file))
   employers-are e =
-      let said = says-so (firstOfFile (fileEdits room held file)) (recordsOnto [] (linesOf file)) entries totals e in
-      let turned = records-reversed [] (linesOf file) in (
-        said .0 ∙ ap entriesIn turned ∙ entries-at-end [] (recordsOf file) (all-placed room held [] (linesOf file) entries totals e),
-        said .1 ∙ ap totalsIn turned ∙ totals-at-end [] (recordsOf file) ∙ none-together (totalsOf (recordsOf file)),
+      let said = says-so (firstOfFile (fileEdits room held file)) (recordsOnto (held .format) [] (linesOf file)) entries totals e in
+      let turned = records-reversed (held .format) [] (linesOf file) in (
+        said .0 ∙ ap entriesIn turned ∙ entries-at-end [] (recordsOf (held .format) file) (all-placed room held [] (linesOf file) entries totals e),
+        said .1 ∙ ap totalsIn turned ∙ totals-at-end [] (recordsOf (held .format) file) ∙ none-together (totalsOf (recordsOf (held .format) file)),
       )

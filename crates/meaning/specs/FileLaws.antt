@@ -9,11 +9,13 @@ use Rattle.lines.specs.Lines.{Line, sizeOf}
 use Rattle.edits.specs.Edit.{Edit, firstBroken}
 use Rattle.edits.specs.EditLaws.{first-cons, first-none}
 use Rattle.edits.specs.declared.Opening.{Opening}
-use Rattle.record.specs.Among.{judge-says, passed-size}
-use Rattle.record.specs.Judge.{refusal, passed, verdictBy, recordOn}
-use Rattle.record.specs.Place.{endEdits}
-use Rattle.record.specs.Theorems.{not-passed}
-use Rattle.record.specs.declared.said.Said.{Said}
+use Rattle.edits.specs.declared.format.Format.{Format}
+use Rattle.record.specs.Laws.{judge-says, passed-size}
+use Rattle.shape.specs.Shape.{refusal, passed, verdictBy}
+use Rattle.record.specs.Judge.{recordOn}
+use Rattle.shape.specs.Ends.{endEdits}
+use Rattle.shape.specs.Theorems.{not-passed}
+use Rattle.shape.specs.declared.Said.{Said}
 use Rattle.tables.specs.Room.{Room}
 use Rattle.meaning.specs.Before.{phaseIn}
 use Rattle.meaning.specs.Meaning.{contextAt, onEarlierE, underThisE, editsAt, judgeAt, LineEdit, onLine, editsFrom, FileFinding, nothing, found, foundOn, orFound, firstOfFile, recordsOnto, outcomeBy, refused, meaningFrom}
@@ -45,20 +47,20 @@ first-alone line edits =
     ap firstOfFile (sym (append-nil (onLine line edits))) ∙ first-on line edits [] ∙ or-nothing (foundOn line (firstBroken edits))
 
 -- The records of no line more, and of one line more.
-pub onto-nil : (p : List Said) → recordsOnto p [] ≡ p
-unfolding recordsOnto
-onto-nil p = refl
+module _ (format : Format) where
+  pub onto-nil : (p : List Said) → recordsOnto format p [] ≡ p
+  unfolding recordsOnto
+  onto-nil p = refl
 
-pub onto-cons : (p : List Said) (line : Line) (lines : List Line) → recordsOnto p (line ∷ lines) ≡ recordsOnto (recordOn line ∷ p) lines
-unfolding recordsOnto
-onto-cons p line lines = refl
+  pub onto-cons : (p : List Said) (line : Line) (lines : List Line) → recordsOnto format p (line ∷ lines) ≡ recordsOnto format (recordOn format line ∷ p) lines
+  unfolding recordsOnto
+  onto-cons p line lines = refl
 
--- ---- the records
--- The records of the lines in file order, turned round onto those before.
-pub records-reversed : (p : List Said) (lines : List Line) → recordsOnto p lines ≡ reverseAux (map recordOn lines) p
-unfolding recordsOnto
-records-reversed p [] = refl
-records-reversed p (line ∷ lines) = records-reversed (recordOn line ∷ p) lines
+  -- The records of the lines in file order, turned round onto those before.
+  pub records-reversed : (p : List Said) (lines : List Line) → recordsOnto format p lines ≡ reverseAux (map (recordOn format) lines) p
+  unfolding recordsOnto
+  records-reversed p [] = refl
+  records-reversed p (line ∷ lines) = records-reversed (recordOn format line ∷ p) lines
 
 module _ (room : Room) (held : Opening) (p : List Said) where
   -- ---- the end
@@ -71,27 +73,27 @@ module _ (room : Room) (held : Opening) (p : List Said) where
   module _ (line : Line) (lines : List Line) where
     -- What is found behind this line.
     abbrev behind : FileFinding
-    behind = firstOfFile (editsFrom room held (recordOn line ∷ p) lines)
+    behind = firstOfFile (editsFrom room held (recordOn (held .format) line ∷ p) lines)
 
     -- The line's own edits come first.
     meaning-line : meaningFrom room held p (line ∷ lines)
-        ≡ outcomeBy (orFound (foundOn (length p + 1) (firstBroken (editsAt room held p line))) behind) (recordsOnto (recordOn line ∷ p) lines)
+        ≡ outcomeBy (orFound (foundOn (length p + 1) (firstBroken (editsAt room held p line))) behind) (recordsOnto (held .format) (recordOn (held .format) line ∷ p) lines)
     unfolding editsFrom recordsOnto
     meaning-line =
-        ap (λ (f : FileFinding). outcomeBy f (recordsOnto (recordOn line ∷ p) lines))
-        (first-on (length p + 1) (editsAt room held p line) (editsFrom room held (recordOn line ∷ p) lines))
+        ap (λ (f : FileFinding). outcomeBy f (recordsOnto (held .format) (recordOn (held .format) line ∷ p) lines))
+        (first-on (length p + 1) (editsAt room held p line) (editsFrom room held (recordOn (held .format) line ∷ p) lines))
 
     -- The verdict on the line is by the same edits.
-    verdict : judgeAt room held p line ≡ verdictBy (firstBroken (editsAt room held p line)) (sizeOf line) (recordOn line)
+    verdict : judgeAt room held p line ≡ verdictBy (firstBroken (editsAt room held p line)) (sizeOf line) (recordOn (held .format) line)
     verdict = judge-says (contextAt room held p) (onEarlierE p) (underThisE p) line
 
     -- A line that is refused says what the file's outcome is.
     pub meaning-refuses : (column number : ℕ) → judgeAt room held p line ≡ refusal column number
         → meaningFrom room held p (line ∷ lines) ≡ refused (notice number (length p + 1) column)
     meaning-refuses column number e = meaning-line ∙ at (firstBroken (editsAt room held p line)) (sym verdict ∙ e) where
-      at : (f : Finding) → verdictBy f (sizeOf line) (recordOn line) ≡ refusal column number
-          → outcomeBy (orFound (foundOn (length p + 1) f) behind) (recordsOnto (recordOn line ∷ p) lines) ≡ refused (notice number (length p + 1) column)
-      at fine told = absurd (not-passed column number (sizeOf line) (recordOn line) (sym told))
+      at : (f : Finding) → verdictBy f (sizeOf line) (recordOn (held .format) line) ≡ refusal column number
+          → outcomeBy (orFound (foundOn (length p + 1) f) behind) (recordsOnto (held .format) (recordOn (held .format) line ∷ p) lines) ≡ refused (notice number (length p + 1) column)
+      at fine told = absurd (not-passed column number (sizeOf line) (recordOn (held .format) line) (sym told))
       at (broken c n) told =
           let same-column : c ≡ column = cc in
           let same-number : n ≡ number = cc in
@@ -103,7 +105,7 @@ module _ (room : Room) (held : Opening) (p : List Said) where
     meaning-goes-on taken said e =
         meaning-line ∙ rw (passed-size (contextAt room held p) (onEarlierE p) (underThisE p) line taken said e .1)
         (at (firstBroken (editsAt room held p line)) (sym verdict ∙ e)) where
-          at : (f : Finding) → verdictBy f (sizeOf line) (recordOn line) ≡ passed taken said
-              → outcomeBy (orFound (foundOn (length p + 1) f) behind) (recordsOnto (recordOn line ∷ p) lines) ≡ meaningFrom room held (recordOn line ∷ p) lines
+          at : (f : Finding) → verdictBy f (sizeOf line) (recordOn (held .format) line) ≡ passed taken said
+              → outcomeBy (orFound (foundOn (length p + 1) f) behind) (recordsOnto (held .format) (recordOn (held .format) line ∷ p) lines) ≡ meaningFrom room held (recordOn (held .format) line ∷ p) lines
           at fine told = refl
           at (broken column number) told = absurd (not-passed column number taken said told)

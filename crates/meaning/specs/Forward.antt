@@ -5,15 +5,16 @@ use lib.ListN.{length}
 use Rattle.lines.specs.Lines.{linesOf}
 use Rattle.edits.specs.declared.Totals.{Totals}
 use Rattle.record.specs.Judge.{recordOn}
-use Rattle.record.specs.declared.said.EmployeeOn.{EmployeeOn}
-use Rattle.record.specs.declared.said.EmployerOn.{EmployerOn}
-use Rattle.record.specs.declared.said.Said.{Said}
-use Rattle.record.specs.declared.said.Said.the-variants.{OfA, OfE, OfS, OfT, OfF, OfNone}
+use Rattle.edits.specs.declared.format.Format.{Format}
+use Rattle.shape.specs.declared.EmployeeOn.{EmployeeOn}
+use Rattle.shape.specs.declared.EmployerOn.{EmployerOn}
+use Rattle.shape.specs.declared.Said.{Said}
+use Rattle.shape.specs.declared.Said.the-variants.{OfA, OfE, OfS, OfT, OfF, OfNone}
 use Rattle.tables.specs.declared.Employer.{Employer}
 
 -- The records of a file, in file order.
-abbrev pub recordsOf : List ℕ → List Said
-recordsOf file = map recordOn (linesOf file)
+abbrev pub recordsOf : Format → List ℕ → List Said
+recordsOf format file = map (recordOn format) (linesOf file)
 
 -- "The S records under an E are those after it with no other line between."
 abbrev pub employeesAfter : List Said → List EmployeeOn
@@ -29,6 +30,11 @@ employeesAfter (OfNone ∷ records) = []
 abbrev pub wagesOf : List EmployeeOn → ℕ
 wagesOf [] = 0
 wagesOf (employee ∷ employees) = employee .wages + wagesOf employees
+
+-- The same of the second amount, in a format that has one.
+abbrev pub secondsOf : List EmployeeOn → ℕ
+secondsOf [] = 0
+secondsOf (employee ∷ employees) = employee .second + secondsOf employees
 
 abbrev pub entryOf : EmployerOn → List EmployeeOn → Employer
 entryOf employer employees = record { fein = employer .fein; count = length employees; cents = wagesOf employees }
@@ -59,7 +65,7 @@ totalsOf records =
       count = length (employeesOf records);
       employers = length (employersOf records);
       sum = wagesOf (employeesOf records);
-      second = 0;
+      second = secondsOf (employeesOf records);
       others = 0;
       notes = 0;
     }

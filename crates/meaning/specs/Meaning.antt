@@ -10,16 +10,18 @@ use Rattle.lines.specs.Lines.{Line, linesOf}
 use Rattle.edits.specs.Edit.{Edit}
 use Rattle.edits.specs.declared.Context.{Context}
 use Rattle.edits.specs.declared.Opening.{Opening}
+use Rattle.edits.specs.declared.format.Format.{Format}
 use Rattle.edits.specs.declared.Totals.{Totals}
-use Rattle.record.specs.Judge.{Judged, recordOn, editsAmong, judgeAmong}
-use Rattle.record.specs.Place.{endEdits}
-use Rattle.record.specs.declared.said.Said.{Said}
+use Rattle.shape.specs.Shape.{Judged}
+use Rattle.record.specs.Judge.{recordOn, editsAmong, judgeAmong}
+use Rattle.shape.specs.Ends.{endEdits}
+use Rattle.shape.specs.declared.Said.{Said}
 use Rattle.tables.specs.Tables.{isAmong}
 use Rattle.tables.specs.Room.{Room, entriesUsed}
 use Rattle.tables.specs.declared.Employer.{Employer}
 use Rattle.meaning.specs.Before.{phaseIn, filedIn, openIn, idsUnder, totalsIn, feinsIn, entriesIn}
 
--- The context of a line: the records before it, the last closed quarter, and the room that is lent.
+-- The context of a line: the records before it, the format and the last closed quarter, and the room that is lent.
 abbrev pub contextAt : Room → Opening → List Said → Context
 contextAt room held p =
     record {
@@ -59,7 +61,7 @@ onLine line (edit ∷ edits) = record { line = line; edit = edit } ∷ onLine li
 -- "Lines in file order", each with its edits by the records before it; then the input's end, "Line is lines read + 1".
 unfoldable pub editsFrom : Room → Opening → List Said → List Line → List LineEdit
 editsFrom room held p [] = onLine (length p + 1) (endEdits (phaseIn p))
-editsFrom room held p (line ∷ lines) = onLine (length p + 1) (editsAt room held p line) ++ editsFrom room held (recordOn line ∷ p) lines
+editsFrom room held p (line ∷ lines) = onLine (length p + 1) (editsAt room held p line) ++ editsFrom room held (recordOn (held .format) line ∷ p) lines
 
 -- All edits of a file in the stated order.
 abbrev pub fileEdits : Room → Opening → List ℕ → List LineEdit
@@ -83,9 +85,9 @@ firstOfFile [] = nothing
 firstOfFile (e ∷ edits) = orFound (foundOn (e .line) (e .edit .finds)) (firstOfFile edits)
 
 -- The records of a file, the nearest to its end first.
-unfoldable pub recordsOnto : List Said → List Line → List Said
-recordsOnto p [] = p
-recordsOnto p (line ∷ lines) = recordsOnto (recordOn line ∷ p) lines
+unfoldable pub recordsOnto : Format → List Said → List Line → List Said
+recordsOnto format p [] = p
+recordsOnto format p (line ∷ lines) = recordsOnto format (recordOn format line ∷ p) lines
 
 -- "accepted" with the employers, and the counts and wages of the whole file; or "refused" with the first line, column and reason.
 pub data Outcome : Type 0 where
@@ -98,7 +100,7 @@ outcomeBy (found line column number) p = refused (notice number line column)
 
 -- The same from any records before.
 abbrev pub meaningFrom : Room → Opening → List Said → List Line → Outcome
-meaningFrom room held p lines = outcomeBy (firstOfFile (editsFrom room held p lines)) (recordsOnto p lines)
+meaningFrom room held p lines = outcomeBy (firstOfFile (editsFrom room held p lines)) (recordsOnto (held .format) p lines)
 
 -- "'accepted' means the published edits found nothing, with each employer's totals below it; 'refused' gives the first line, column and reason."
 abbrev pub meaning : Room → Opening → List ℕ → Outcome

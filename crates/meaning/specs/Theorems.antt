@@ -12,8 +12,9 @@ use Rattle.edits.specs.Labels.{ByLabel, AllLabelled, labelled-append, labelled-
 use Rattle.edits.specs.declared.Opening.{Opening}
 use Rattle.edits.specs.declared.Totals.{Totals}
 use Rattle.record.specs.Judge.{recordOn}
-use Rattle.record.specs.Labelled.{line-labelled, end-labelled}
-use Rattle.record.specs.declared.said.Said.{Said}
+use Rattle.record.specs.Laws.{line-labelled}
+use Rattle.shape.specs.EndLaws.{end-labelled}
+use Rattle.shape.specs.declared.Said.{Said}
 use Rattle.tables.specs.Room.{Room}
 use Rattle.tables.specs.declared.Employer.{Employer}
 use Rattle.meaning.specs.Before.{phaseIn, totalsIn, entriesIn}
@@ -65,9 +66,9 @@ unfolding editsFrom
 file-labelled room held p [] = end-labelled (phaseIn p)
 file-labelled room held p (line ∷ lines) =
     let these = editsAt room held p line in
-    let rest = editsFrom room held (recordOn line ∷ p) lines in
+    let rest = editsFrom room held (recordOn (held .format) line ∷ p) lines in
     rw (off-line (length p + 1) these rest)
-    (labelled-append these (withoutLines rest) (line-labelled (contextAt room held p) _ line) (file-labelled room held (recordOn line ∷ p) lines))
+    (labelled-append these (withoutLines rest) (line-labelled (contextAt room held p) _ line) (file-labelled room held (recordOn (held .format) line ∷ p) lines))
 
 -- ---- the first
 -- The notice is that of one edit of the list, told by its label: its number, and a column from its first to its last, the first unless the number
@@ -137,17 +138,17 @@ refuses-found (found line column number) p says e = let same : notice number lin
 module _ (room : Room) (held : Opening) (file : List ℕ) where
   -- "A file is accepted exactly if it breaks none of the edits"
   pub accepted-iff : (NoneBroken (fileEdits room held file)
-      → meaning room held file ≡ accepted (entriesIn (recordsOnto [] (linesOf file))) (totalsIn (recordsOnto [] (linesOf file))))
+      → meaning room held file ≡ accepted (entriesIn (recordsOnto (held .format) [] (linesOf file))) (totalsIn (recordsOnto (held .format) [] (linesOf file))))
       × ((entries : List Employer) (totals : Totals) → meaning room held file ≡ accepted entries totals → NoneBroken (fileEdits room held file))
   accepted-iff = (
     λ none. rw (none-found (fileEdits room held file) none),
     λ entries totals e.
         found-none (fileEdits room held file)
-        (accepts-nothing (firstOfFile (fileEdits room held file)) (recordsOnto [] (linesOf file)) entries totals e),
+        (accepts-nothing (firstOfFile (fileEdits room held file)) (recordsOnto (held .format) [] (linesOf file)) entries totals e),
   )
 
   -- "Otherwise the line, column and reason are those of the first broken edit in the stated order."
   pub first-is-first : (says : Notice) → meaning room held file ≡ refused says → FirstBroken (fileEdits room held file) says
   first-is-first says e =
       first-of-file (fileEdits room held file) (file-labelled room held [] (linesOf file)) says
-      (refuses-found (firstOfFile (fileEdits room held file)) (recordsOnto [] (linesOf file)) says e)
+      (refuses-found (firstOfFile (fileEdits room held file)) (recordsOnto (held .format) [] (linesOf file)) says e)

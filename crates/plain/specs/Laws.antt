@@ -1,8 +1,8 @@
--- What may be relied on where a record is plain: it passes as an employee of the open employer, and its numbers and its size are small.
+-- What may be relied on where a record is plain: it passes as an employee of the open employer, and its identity number and its size are small.
 use Prim.Native.Nat.{ℕ, _+_, _≤_, _<_}
 use mathlib.Core.Bool.{Bool, true, false, not, _&&_, _||_, false≢true}
 use mathlib.Core.List.{List}
-use mathlib.Core.Path.{_≡_, refl, ap, _∙_}
+use mathlib.Core.Path.{_≡_, refl, sym, ap, subst, _∙_}
 use native.Mathlib.Omega.{arith}
 use borrow.Author.Tests.{eqb-false, eq-eqb, leb-true, not-true}
 use lib.Dec.{eqb, leb, ltb}
@@ -11,35 +11,40 @@ use Rattle.laws.specs.Choice.{if_then_else_, both-hold}
 use Rattle.laws.specs.Finding.{Finding, fine, broken, value}
 use Rattle.lines.specs.Ends.{text-before-end, cut-before-end}
 use Rattle.lines.specs.Laws.{end-short}
-use Rattle.lines.specs.Lines.{firstLine}
+use Rattle.lines.specs.Lines.{Line, firstLine}
 use Rattle.calendar.specs.Laws.{allowed-filing, allowed-month}
 use Rattle.calendar.specs.declared.Quarter.{Quarter}
 use Rattle.chars.specs.Characters.{capitals}
 use Rattle.chars.specs.Columns.{everyColumn, isFine, unless}
 use Rattle.chars.specs.declared.columns.Allowed.the-variants.{Digits, OfNames}
 use Rattle.number.specs.ColumnLaws.{value-reads}
-use Rattle.number.specs.NumberLaws.{good-width, number-below}
 use Rattle.number.specs.Numbers.{numberIn, valueIn}
 use Rattle.number.specs.RuleLaws.{period-passes}
 use Rattle.number.specs.Rules.{mayBeFiled}
 use Rattle.text.specs.TextLaws.{ink-not-blank, ink-not-indented}
-use Rattle.layout.specs.Fields.{fieldsOfS}
+use Rattle.pfml_fields.specs.Fields.{fieldsOfS}
 use Rattle.edits.specs.EditLaws.{AllFine}
 use Rattle.edits.specs.Lists.{fieldEdits}
 use Rattle.edits.specs.declared.Context.{Context}
 use Rattle.edits.specs.declared.Phase.the-variants.{EOpen}
 use Rattle.edits.specs.declared.Seen.{Seen}
-use Rattle.record.specs.EmployeeEdits.{edits-of-S, place-of-S}
-use Rattle.record.specs.Judge.{around, passed, seenOn, judgeAmong}
-use Rattle.record.specs.Place.{mostEmployees}
-use Rattle.record.specs.Rules.{rulesOfS}
-use Rattle.record.specs.Sums.{passes}
-use Rattle.record.specs.declared.kind.Kind.the-variants.{Employee}
-use Rattle.record.specs.declared.said.Said.the-variants.{OfS}
+use Rattle.edits.specs.declared.format.Format.{Format}
+use Rattle.edits.specs.declared.format.Format.the-variants.{Pfml}
+use Rattle.pfml.specs.EmployeeEdits.{edits-of-S, place-of-S}
+use Rattle.pfml.specs.Edits.{around}
+use Rattle.pfml.specs.Format.{pfmlShape}
+use Rattle.shape.specs.Limits.{mostEmployees}
+use Rattle.shape.specs.Shape.{passed, seenBy, judgeAmongBy}
+use Rattle.record.specs.Judge.{judge, seenOn, judgeAmong}
+use Rattle.record.specs.Laws.{judge-pfml}
+use Rattle.pfml_fields.specs.Rules.{rulesOfS}
+use Rattle.pfml.specs.Sums.{passes}
+use Rattle.pfml.specs.declared.kind.Kind.the-variants.{Employee}
+use Rattle.shape.specs.declared.Said.the-variants.{OfS}
 use Rattle.plain.specs.Passing.{textOn, no-end, ink, is-employee, blank-field, code-field, number-read, digits-number, name-field, all-permitted}
 use Rattle.plain.specs.Plain.{lowest, highest, fits, within, idIn, wagesIn, endSize, isPlain, sight}
-use Rattle.plain.specs.Sweeps.{within-at, digits-below, digits-read}
-use Rattle.plain.specs.Templates.{Between, wages-digits, digit-spans, name-spans, blank-spans, quarter-fits, reads-month, reads-year, reads-fein}
+use Rattle.plain.specs.Sweeps.{within-at, digits-below}
+use Rattle.plain.specs.Templates.{Between, digit-spans, name-spans, blank-spans, quarter-fits, reads-month, reads-year, reads-fein}
 use Rattle.plain.specs.declared.Sighted.{Sighted}
 
 -- ---- what is asked of a plain record
@@ -97,16 +102,6 @@ module _ (low high s : List ℕ) where
     by : (plain : Bool) → seenIf plain s .id < 4294967296
     by true = omega (arith, digits-below 9 s 0 1 0 (omega arith))
     by false = omega arith
-
-pub wages-below : (fein : ℕ) (filed : Quarter) (s : List ℕ) → sight (lowest fein filed) (highest fein filed) s .wages ≤ 99999999999999
-wages-below fein filed s = by (isPlain (lowest fein filed) (highest fein filed) s) refl where
-  by : (plain : Bool) → isPlain (lowest fein filed) (highest fein filed) s ≡ plain → seenIf plain s .wages ≤ 99999999999999
-  by true e =
-      let between = within-at (lowest fein filed) (highest fein filed) s 290 (asked _ _ s e .between) in
-      let digits = wages-digits fein filed s between in
-      let reads = good-width s 64 77 (omega arith) (omega arith) ∙ digits-read 14 s 0 63 (λ k low high. digits k low (omega arith)) in
-      omega (arith, number-below s 64 77 (wagesIn s) reads)
-  by false e = omega arith
 
 -- ---- its edits
 -- A number that is new where there is room: it was not seen, and there is room.
@@ -187,8 +182,15 @@ module _ (here : Context) (fit : fits (here .open .fein) (here .filed) ≡ true)
       & fein-reads .0 & holds _ 147 46 (eq-eqb (valueIn text 147 155) fein (fein-reads .1))
       & blank 156 290 (omega arith) (blank-spans .3) & tt)
 
+-- In a file of PFML a line is judged by PFML.
+among-pfml : (here : Context) (earlier under : ℕ → Bool) (line : Line) → here .held .format ≡ Pfml
+    → judgeAmong here earlier under line ≡ judgeAmongBy pfmlShape here earlier under line
+among-pfml here earlier under line pfml =
+    ap (λ (format : Format). judge here (seenOn format earlier under (capitals (line .text))) line) pfml
+    ∙ judge-pfml here (seenBy pfmlShape earlier under (capitals (line .text))) line pfml
+
 -- It passes: the bytes taken are its 290 characters and its end, and it says its identity number and its wages.
-pub plain-passes : (here : Context) (earlier under : ℕ → Bool) (s : List ℕ) → here .phase ≡ EOpen → here .open .follow ≡ true
+pub plain-passes : (here : Context) (earlier under : ℕ → Bool) (s : List ℕ) → here .held .format ≡ Pfml → here .phase ≡ EOpen → here .open .follow ≡ true
     → fits (here .open .fein) (here .filed) ≡ true → ltb (here .all .count) mostEmployees ≡ true
     → (sight (lowest (here .open .fein) (here .filed)) (highest (here .open .fein) (here .filed)) s .taken ≡ 0 → ⊥)
     → (eqb (sight (lowest (here .open .fein) (here .filed)) (highest (here .open .fein) (here .filed)) s .id) 0
@@ -198,8 +200,9 @@ pub plain-passes : (here : Context) (earlier under : ℕ → Bool) (s : List ℕ
     (OfS (record {
       id = sight (lowest (here .open .fein) (here .filed)) (highest (here .open .fein) (here .filed)) s .id;
       wages = sight (lowest (here .open .fein) (here .filed)) (highest (here .open .fein) (here .filed)) s .wages;
+      second = 0;
     }))
-plain-passes here earlier under s phase follow fit few some new =
+plain-passes here earlier under s pfml phase follow fit few some new =
     let fein = here .open .fein in
     let filed = here .filed in
     let plain = plain-seen (lowest fein filed) (highest fein filed) s some in
@@ -210,10 +213,13 @@ plain-passes here earlier under s phase follow fit few some new =
     let read : capitals (firstLine s .text) ≡ text = ap capitals (text-before-end 290 s no-ends (all .ends)) in
     let named = is-employee fein filed fit s among in
     let id = id-reads here fit s all .1 in
-    let asks : seenOn earlier under (capitals (firstLine s .text)) ≡ record { fein = false; id = under (idIn s) } = rw (read, named, id) in
-    let fresh : eqb (idIn s) 0 || (not (here .«ids_full») && not (seenOn earlier under (capitals (firstLine s .text)) .id)) ≡ true = rw asks (rw plain at new) in
+    let seen = seenBy pfmlShape earlier under (capitals (firstLine s .text)) in
+    let asks : seen .id ≡ under (idIn s) = rw (read, named, id) in
+    let fresh : eqb (idIn s) 0 || (not (here .«ids_full») && not (seen .id)) ≡ true =
+    subst (λ (b : Bool). eqb (idIn s) 0 || (not (here .«ids_full») && not b) ≡ true) (sym asks) (rw plain at new) in
     rw plain
-    (passes here (seenOn earlier under (capitals (firstLine s .text))) (firstLine s) text read Employee named (290 + endSize s)
+    (among-pfml here earlier under (firstLine s) pfml
+    ∙ passes here seen (firstLine s) text read Employee named (290 + endSize s)
     (cut-before-end 290 s (omega (arith, all .long)) no-ends (all .ends)) (all-permitted fein filed fit s among (all .names)) refl
     (place-of-S here phase follow few) (fields-fine here fit s all _ fresh)
     ∙ rw (id, wages-read here fit s all .1))

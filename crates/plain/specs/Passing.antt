@@ -22,10 +22,9 @@ use Rattle.number.specs.NumberLaws.{good-width, number-in-front, number-capital
 use Rattle.number.specs.Numbers.{numberIn}
 use Rattle.text.specs.Text.{hasPattern}
 use Rattle.text.specs.TextLaws.{Fixed, columns-pattern}
-use Rattle.record.specs.Judge.{kindOn}
-use Rattle.record.specs.Kinds.{kindOf}
-use Rattle.record.specs.Letters.{kind-of-S}
-use Rattle.record.specs.declared.kind.Kind.the-variants.{Employee}
+use Rattle.pfml.specs.Kinds.{kindOn, kindOf}
+use Rattle.pfml.specs.Letters.{kind-of-S}
+use Rattle.pfml.specs.declared.kind.Kind.the-variants.{Employee}
 use Rattle.plain.specs.Plain.{fits, digitsFrom}
 use Rattle.plain.specs.Sweeps.{side, digits-read}
 use Rattle.plain.specs.Templates.{Span, Between, in-span, letter-span, all-span, large-spans, code-spans}

@@ -138,16 +138,6 @@ module _ (fein : ℕ) (filed : Quarter) (line : List ℕ) where
       ∙ put-number-elsewhere withMonth 48 51 (filed .year) (omega arith) k (inr (omega arith))
       ∙ put-number-elsewhere line 46 47 (filed .month) (omega arith) k (inr (omega arith))
 
--- The wages are digits in every record between the two, whoever the employer is.
-pub wages-digits : (fein : ℕ) (filed : Quarter) (s : List ℕ) → Between fein filed s → (k : ℕ) → 63 ≤ k → k < 77 → (48 ≤ getD s k 0) × (getD s k 0 ≤ 57)
-unfolding ofEmployer
-wages-digits fein filed s between k low high =
-    let here = between k (omega arith) in
-    let lowest-there = elsewhere fein filed lowestOfAll k (inr (inl (omega arith, omega arith))) in
-    let highest-there = elsewhere fein filed highestOfAll k (inr (inl (omega arith, omega arith))) in
-    let bounds = digit-spans .1 k low high in
-    (omega arith, omega arith)
-
 module _ (fein : ℕ) (filed : Quarter) (fit : fits fein filed ≡ true) where
   pub quarter-fits : isAllowed filed ≡ true
   quarter-fits = both-hold (leb fein 999999999) (isAllowed filed) fit .1

@@ -125,7 +125,7 @@ fn sight_here(line: &[u8], low: &[u8; 290], high: &[u8; 290]) -> Sighted
     if !columns::all_hold(Allowed::OfNames, line, 11, 42) {
         return nothing();
     }
-    let end = lines::end_length(line, layout::RECORD as usize);
+    let end = lines::end_length(line, pfml_fields::RECORD as usize);
     if end == 0 {
         return nothing();
     }
@@ -135,7 +135,7 @@ fn sight_here(line: &[u8], low: &[u8; 290], high: &[u8; 290]) -> Sighted
     }
     let wages = digits_in(line, 63, 77);
     Sighted {
-        taken: layout::RECORD as usize + end,
+        taken: pfml_fields::RECORD as usize + end,
         id,
         wages,
     }

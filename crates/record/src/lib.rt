@@ -1,160 +1,155 @@
-// The edits of one line of a wage file, in the stated order, and what the record on it says.
-pub mod kind;
-pub mod place;
-pub mod said;
-
-use chars::columns;
-use chars::columns::Allowed;
+// The formats: the one place where code asks which format it is. Of a number that names none every line is one of no record.
+use calendar::Quarter;
 use edits::Context;
-use edits::Marks;
+use edits::Open;
+use edits::Opening;
+use edits::Phase;
 use edits::Seen;
-use edits::fields;
-use kind::Kind;
+use edits::Totals;
+use edits::format::Format;
 use lines::Cut;
+use pfml::fitness;
 use reason::Edit;
 use reason::Reason;
-use said::Said;
+use shape::Asking;
+use shape::Said;
+use shape::Verdict;
 ghost use mathlib.Core.Path.{_≡_};
-ghost use Prim.Native.Nat.{_-_, _≤_};
-ghost use lib.ListN.{take, drop};
-ghost use Rattle.laws.specs.Text.{bytes};
+ghost use mathlib.Core.Bool.{_&&_};
+ghost use lib.Dec.{leb};
 ghost use Rattle.reason.specs.Numbers.{findingOf};
 ghost use Rattle.lines.specs.Lines.{firstLine};
 ghost use Rattle.chars.specs.Characters.{capitals};
 ghost use Rattle.edits.specs.Edit.{firstBroken};
-ghost use Rattle.edits.specs.Tests.{fieldsTest};
-ghost use Rattle.edits.specs.Lists.{fieldEdits};
-ghost use Rattle.layout.specs.Fields.{fields as allFields};
-ghost use Rattle.record.specs.Rules.{rules, rulesFor};
-ghost use Rattle.record.specs.Judge.{rowsFor, around as aroundOf, placedEdits, headEdits, textEdits, textVerdict, judge as judgeOf, judgedBy};
-ghost use Rattle.record.specs.Kinds.{isKnown};
-ghost use Rattle.chars.specs.Columns.{unless};
+ghost use Rattle.shape.specs.Shape.{judgedBy, textVerdictBy, feinAsked, idAsked};
+ghost use Rattle.record.specs.Formats.{shapeOf};
+ghost use Rattle.record.specs.Judge.{judge as judgeOf};
 
-// The taxing entity's code.
-pub const ENTITY: [u8; 4] = *b"PFML";
-
-// By which rule each field is held against its context: a number for each row of the list of fields, in its order.
-const RULES: [u8; 72] = *b"\
-    \x00\x01\x00\x00\x02\x00\x00\x00\x00\x00\x00\x00\x00\x00\x00\x00\x00\
-    \x00\x03\x05\x00\x00\x00\x00\x00\x00\x00\x00\x00\x00\x00\x00\x00\x00\x04\x00\x00\x00\x00\x00\x00\x00\x00\x0e\x07\
-    \x00\x08\x00\x00\x00\x04\x03\x00\x00\x00\x00\x06\x00\
-    \x00\x09\x00\x06\x00\x0a\x00\
-    \x00\x0b\x0c\x00\x00\x0d\x00";
-
-// A refusal, with its column; or the bytes that the line and its end take, and what its record says.
-pub enum Verdict {
-    Refused(u16, Reason),
-    Passed(usize, Said),
-}
-
-fn all_rules() -> [u8; 72]
-    ensures { λ r. ⌜ r ≡ rules ⌝ }
+// How many characters a line has.
+pub fn length_of(format: Format) -> u16
+    ensures { λ r. ⌜ r ≡ shapeOf format .length ⌝ }
 {
-    RULES
-}
-
-// The fields from number `from` up to `to`, left out.
-fn fields_between(
-    marks: Marks,
-    here: Context,
-    seen: Seen,
-    line: &[u8],
-    from: usize,
-    to: usize,
-) -> Edit
-    requires { ⌜ (from ≤ to) × (to ≤ 72) ⌝ }
-    ensures { λ r. ⌜ findingOf r ≡ fieldsTest (record { marks = marks; code = bytes "PFML"; here = here; seen = seen }) (capitals (now (line .entry))) (take (to - from) (drop from allFields)) (take (to - from) (drop from rules)) ⌝ }
-{
-    let rows = layout::all_rows();
-    let rules = all_rules();
-    fields::first_broken(
-        marks,
-        ENTITY,
-        here,
-        seen,
-        line,
-        &rows[from..to],
-        &rules[from..to],
-    )
-}
-
-fn fields_edit(kind: Kind, here: Context, seen: Seen, line: &[u8]) -> Edit
-    ensures { λ r. ⌜ findingOf r ≡ firstBroken (fieldEdits (aroundOf here seen kind) (capitals (now (line .entry))) (rowsFor kind) (rulesFor kind)) ⌝ }
-{
-    let marks = kind::marks_of(kind);
-    match kind {
-        Kind::Transmitter => fields_between(marks, here, seen, line, 0, 17),
-        Kind::Employer => fields_between(marks, here, seen, line, 17, 45),
-        Kind::Employee => fields_between(marks, here, seen, line, 45, 58),
-        Kind::Total => fields_between(marks, here, seen, line, 58, 65),
-        Kind::Final => fields_between(marks, here, seen, line, 65, 72),
-        Kind::Unknown => Edit::Passed,
+    match format {
+        Format::Pfml => pfml_fields::RECORD,
+        Format::Unknown => 1,
     }
 }
 
-// Place and count of a record whose letter is known.
-fn placed_edit(kind: Kind, here: Context) -> Edit
-    ensures { λ r. ⌜ findingOf r ≡ firstBroken (placedEdits here kind) ⌝ }
+// The most lines that are read.
+pub fn most_lines(format: Format) -> u32
+    ensures { λ r. ⌜ r ≡ shapeOf format .mostLines ⌝ }
 {
-    let open = here.open;
-    let all = here.all;
-    let phase = here.phase;
-    let e = place::place_edit(phase, open.follow, kind);
-    match e {
-        Edit::Broken(_, _) => e,
-        Edit::Passed => place::count_edit(kind, all.count),
+    match format {
+        Format::Pfml => fitness::MOST_LINES,
+        Format::Unknown => 231074,
     }
 }
 
-// A letter that names no record.
-fn letter_edit(kind: Kind) -> Edit
-    ensures { λ r. ⌜ findingOf r ≡ unless (isKnown kind) 1 4 ⌝ }
+// The most cents that one record says of an amount.
+pub fn most_cents(format: Format) -> u64
+    ensures { λ r. ⌜ r ≡ shapeOf format .mostCents ⌝ }
 {
-    match kind {
-        Kind::Transmitter => Edit::Passed,
-        Kind::Employer => Edit::Passed,
-        Kind::Employee => Edit::Passed,
-        Kind::Total => Edit::Passed,
-        Kind::Final => Edit::Passed,
-        Kind::Unknown => Edit::Broken(1, Reason::UnknownLetter),
+    match format {
+        Format::Pfml => fitness::MOST_CENTS,
+        Format::Unknown => 99999999999999,
     }
 }
 
-// Characters, letter, place and count.
-fn head_edit(kind: Kind, here: Context, line: &[u8]) -> Edit
-    ensures { λ r. ⌜ findingOf r ≡ firstBroken (headEdits here (capitals (now (line .entry))) kind) ⌝ }
+// 72, the clauses of the format's own: by the length of the id table, the ids in use, whether an E is open, and the numbers of the file and of the open E.
+pub fn unfit_more(
+    format: Format,
+    ids: usize,
+    used: usize,
+    is_open: bool,
+    all: Totals,
+    e: Open,
+) -> bool
+    ensures { λ r. ⌜ r ≡ shapeOf format .unfitMore ids used «is_open» all e ⌝ }
 {
-    let e = columns::every_column(Allowed::Permitted, line, 1, layout::RECORD);
-    if let Edit::Broken(_, _) = e {
-        return e;
+    match format {
+        Format::Pfml => fitness::ids_unfit(ids, used, is_open),
+        Format::Unknown => false,
     }
-    let l = letter_edit(kind);
-    if let Edit::Broken(_, _) = l {
-        return l;
+}
+
+// 72: whether the quarter that the file reports is none that the format allows.
+pub fn quarter_unfit(phase: Phase, held: Opening, filed: Quarter) -> bool
+    ensures { λ r. ⌜ r ≡ shapeOf (held .format) .quarterUnfit phase held filed ⌝ }
+{
+    let format = held.format;
+    match format {
+        Format::Pfml => fitness::quarter_unfit(phase, held, filed),
+        Format::Unknown => false,
     }
-    placed_edit(kind, here)
+}
+
+fn is_of_line(number: u8) -> bool
+    ensures { λ r. ⌜ r ≡ (leb 1 number && leb number 8) ⌝ }
+{
+    if number < 1 {
+        return false;
+    }
+    number <= 8
+}
+
+// Whether a number is one that the refusal of an edit leaves in the state.
+pub fn is_left(format: Format, number: u8) -> bool
+    ensures { λ r. ⌜ r ≡ shapeOf format .isLeft number ⌝ }
+{
+    match format {
+        Format::Pfml => fitness::is_left(number),
+        Format::Unknown => is_of_line(number),
+    }
 }
 
 // All edits of a line of the right length.
-fn text_edit(kind: Kind, here: Context, seen: Seen, line: &[u8]) -> Edit
-    ensures { λ r. ⌜ findingOf r ≡ firstBroken (textEdits here seen (capitals (now (line .entry))) kind) ⌝ }
+fn text_edit(format: Format, here: Context, seen: Seen, line: &[u8]) -> Edit
+    ensures { λ r. ⌜ findingOf r ≡ firstBroken (shapeOf format .edits here seen (capitals (now (line .entry)))) ⌝ }
 {
-    let e = head_edit(kind, here, line);
-    match e {
-        Edit::Broken(_, _) => e,
-        Edit::Passed => fields_edit(kind, here, seen, line),
+    match format {
+        Format::Pfml => pfml::text_edit(here, seen, line),
+        Format::Unknown => Edit::Broken(1, Reason::UnknownLetter),
+    }
+}
+
+// What the record on a line says.
+pub fn said_on(format: Format, line: &[u8]) -> Said
+    ensures { λ r. ⌜ r ≡ shapeOf format .says (capitals (now (line .entry))) ⌝ }
+{
+    match format {
+        Format::Pfml => pfml::said_on(line),
+        Format::Unknown => Said::OfNone,
+    }
+}
+
+// What the record on a line asks of the employer list.
+pub fn fein_asked(format: Format, line: &[u8]) -> Asking
+    ensures { λ r. ⌜ r ≡ feinAsked (shapeOf format .says (capitals (now (line .entry)))) ⌝ }
+{
+    match format {
+        Format::Pfml => pfml::fein_asked(line),
+        Format::Unknown => shape::asks_nothing(),
+    }
+}
+
+// What the record on a line asks of the id table.
+pub fn id_asked(format: Format, line: &[u8]) -> Asking
+    ensures { λ r. ⌜ r ≡ idAsked (shapeOf format .says (capitals (now (line .entry)))) ⌝ }
+{
+    match format {
+        Format::Pfml => pfml::id_asked(line),
+        Format::Unknown => shape::asks_nothing(),
     }
 }
 
 // The verdict on a line of the right length that takes so many bytes.
-fn judge_text(here: Context, seen: Seen, line: &[u8], taken: usize) -> Verdict
-    ensures { λ r. ⌜ judgedBy r ≡ textVerdict here seen (capitals (now (line .entry))) taken ⌝ }
+fn judge_text(format: Format, here: Context, seen: Seen, line: &[u8], taken: usize) -> Verdict
+    ensures { λ r. ⌜ judgedBy r ≡ textVerdictBy (shapeOf format) here seen (capitals (now (line .entry))) taken ⌝ }
 {
-    let kind = kind::kind_of(chars::char_at(line, 0));
-    let e = text_edit(kind, here, seen, line);
+    let e = text_edit(format, here, seen, line);
     match e {
         Edit::Broken(column, reason) => Verdict::Refused(column, reason),
-        Edit::Passed => Verdict::Passed(taken, said::said_by(kind, line)),
+        Edit::Passed => Verdict::Passed(taken, said_on(format, line)),
     }
 }
 
@@ -162,11 +157,14 @@ fn judge_text(here: Context, seen: Seen, line: &[u8], taken: usize) -> Verdict
 pub fn judge(here: Context, seen: Seen, bytes: &[u8]) -> Verdict
     ensures { λ r. ⌜ judgedBy r ≡ judgeOf here seen (firstLine (now (bytes .entry))) ⌝ }
 {
-    let cut = lines::cut_line(bytes, layout::RECORD);
+    let opening = here.held;
+    let format = opening.format;
+    let length = length_of(format);
+    let cut = lines::cut_line(bytes, length);
     let from: usize = 0;
-    let to: usize = 290;
+    let to = length as usize;
     match cut {
         Cut::Refused(column, reason) => Verdict::Refused(column, reason),
-        Cut::Taken(taken) => judge_text(here, seen, &bytes[from..to], taken),
+        Cut::Taken(taken) => judge_text(format, here, seen, &bytes[from..to], taken),
     }
 }

@@ -2,3 +2,4 @@ pub mod Walks
 pub mod Once
 pub mod Unfit
 pub mod UnfitLaws
+pub mod Cents

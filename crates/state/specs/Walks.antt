@@ -10,7 +10,7 @@ use Rattle.edits.specs.declared.Phase.the-variants.{BeforeA, AfterF}
 use Rattle.edits.specs.declared.Totals.{Totals}
 use Rattle.edits.specs.declared.format.Format.{Format}
 use Rattle.edits.specs.declared.format.Format.the-variants.{Unknown}
-use Rattle.meaning.specs.Before.{noQuarter, noneOpen, noTotals}
+use Rattle.shape.specs.After.{noQuarter, noneOpen, noTotals}
 use Rattle.state.specs.declared.Stage.{Stage}
 use Rattle.state.specs.declared.Stage.the-variants.{Reading, Accepted, Refused}
 use Rattle.state.specs.declared.State.{State}

@@ -10,17 +10,15 @@ use edits::format;
 use edits::format::Format;
 ghost use Prim.Native.Nat.{_≤_};
 ghost use mathlib.Core.Path.{_≡_};
+ghost use mathlib.Core.Bool.{_&&_};
 ghost use Rattle.edits.specs.Formats.{isOfOpening};
-ghost use Rattle.record.specs.Place.{mostEmployees};
+ghost use Rattle.shape.specs.Limits.{mostEmployees};
+ghost use Rattle.record.specs.Formats.{shapeOf};
 ghost use Rattle.tables.specs.Room.{entriesUsed};
 ghost use Rattle.state.specs.Walks.{reading, walkOf, standingOf};
 ghost use Rattle.state.specs.Unfit.{fileUnfit, openUnfit, isOpen, isLeft, bothUnfit, standingUnfit, unfit};
 
 pub const MOST_EMPLOYEES: u64 = 100000;
-
-pub const MOST_WAGES: u64 = 99999999999999;
-
-pub const MOST_LINES: u32 = 231074;
 
 const MOST_FEIN: u64 = 999999999;
 
@@ -34,8 +32,8 @@ pub fn entries_used(list: usize) -> u64
     65536
 }
 
-fn file_unfit(list: usize, all: Totals, lines: u32) -> bool
-    ensures { λ r. ⌜ r ≡ fileUnfit (entriesUsed (record { ids = 0; list = list })) all lines ⌝ }
+fn file_unfit(format: Format, list: usize, all: Totals, lines: u32) -> bool
+    ensures { λ r. ⌜ r ≡ fileUnfit (shapeOf format) (entriesUsed (record { ids = 0; list = list })) all lines ⌝ }
 {
     let entries = entries_used(list);
     if entries < all.employers {
@@ -44,29 +42,37 @@ fn file_unfit(list: usize, all: Totals, lines: u32) -> bool
     if MOST_EMPLOYEES < all.count {
         return true;
     }
-    if all.count * MOST_WAGES < all.sum {
+    if all.count * record::most_cents(format) < all.sum {
         return true;
     }
-    MOST_LINES < lines
+    record::most_lines(format) < lines
 }
 
-fn open_unfit(ids: usize, used: usize, all: Totals, e: Open) -> bool
+fn open_unfit(format: Format, all: Totals, e: Open) -> bool
     requires { ⌜ all .count ≤ mostEmployees ⌝ }
-    ensures { λ r. ⌜ r ≡ openUnfit ids used all e ⌝ }
+    ensures { λ r. ⌜ r ≡ openUnfit (shapeOf format) all e ⌝ }
 {
-    if ids < used {
-        return true;
-    }
     if all.count < e.count {
         return true;
     }
-    if e.count * MOST_WAGES < e.sum {
+    if e.count * record::most_cents(format) < e.sum {
         return true;
     }
     if all.employers == 0 {
         return true;
     }
     MOST_FEIN < e.fein
+}
+
+// The numbers of an open E, where there is one.
+fn under_unfit(format: Format, is_open: bool, all: Totals, e: Open) -> bool
+    requires { ⌜ all .count ≤ mostEmployees ⌝ }
+    ensures { λ r. ⌜ r ≡ («is_open» && openUnfit (shapeOf format) all e) ⌝ }
+{
+    if is_open {
+        return open_unfit(format, all, e);
+    }
+    false
 }
 
 fn under_e(phase: Phase) -> bool
@@ -110,33 +116,18 @@ fn is_left(format: Format, number: u8) -> bool
         return true;
     }
     if format::is_known(format) {
-        if number < 1 {
-            return false;
-        }
-        return number <= 65;
+        return record::is_left(format, number);
     }
     false
 }
 
-fn quarters_unfit(held: Opening, filed: Quarter) -> bool
-    ensures { λ r. ⌜ r ≡ bothUnfit held filed ⌝ }
+fn phase_unfit(phase: Phase, held: Opening, filed: Quarter) -> bool
+    ensures { λ r. ⌜ r ≡ bothUnfit phase held filed ⌝ }
 {
     if format::may_open(held) {
-        return !calendar::is_reportable(format::quarter_held(held), filed);
+        return record::quarter_unfit(phase, held, filed);
     }
     true
-}
-
-fn phase_unfit(phase: Phase, held: Opening, filed: Quarter) -> bool
-    ensures { λ r. ⌜ r ≡ standingUnfit (reading phase) held filed ⌝ }
-{
-    match phase {
-        Phase::BeforeA => !format::may_open(held),
-        Phase::AfterA => quarters_unfit(held, filed),
-        Phase::EOpen => quarters_unfit(held, filed),
-        Phase::AfterT => quarters_unfit(held, filed),
-        Phase::AfterF => quarters_unfit(held, filed),
-    }
 }
 
 fn stage_unfit(stage: Stage, held: Opening, filed: Quarter) -> bool
@@ -144,7 +135,7 @@ fn stage_unfit(stage: Stage, held: Opening, filed: Quarter) -> bool
 {
     match stage {
         Stage::Reading(phase) => phase_unfit(phase, held, filed),
-        Stage::Accepted => quarters_unfit(held, filed),
+        Stage::Accepted => phase_unfit(Phase::AfterF, held, filed),
         Stage::Refused(refusal) => {
             let format = held.format;
             let reason = refusal.reason;
@@ -157,16 +148,20 @@ fn stage_unfit(stage: Stage, held: Opening, filed: Quarter) -> bool
 pub fn is_unfit(st: State, ids: usize, list: usize) -> bool
     ensures { λ r. ⌜ r ≡ unfit (record { ids = ids; list = list }) (walkOf st) ⌝ }
 {
+    let held = st.held;
+    let format = held.format;
     let all = st.all;
-    if file_unfit(list, all, st.lines) {
+    let e = st.open;
+    if file_unfit(format, list, all, st.lines) {
         return true;
     }
     let stage = st.stage;
-    if is_open(stage) {
-        if open_unfit(ids, st.used, all, st.open) {
-            return true;
-        }
-        return stage_unfit(stage, st.held, st.filed);
+    let open = is_open(stage);
+    if under_unfit(format, open, all, e) {
+        return true;
     }
-    stage_unfit(stage, st.held, st.filed)
+    if record::unfit_more(format, ids, st.used, open, all, e) {
+        return true;
+    }
+    stage_unfit(stage, held, st.filed)
 }

@@ -10,7 +10,7 @@ use edits::format::Format;
 use reason::Refusal;
 ghost use mathlib.Core.Path.{_≡_};
 ghost use Rattle.reason.specs.Numbers.{noticeOf};
-ghost use Rattle.meaning.specs.Before.{noQuarter, noneOpen, noTotals};
+ghost use Rattle.shape.specs.After.{noQuarter, noneOpen, noTotals};
 ghost use Rattle.state.specs.Walks.{phaseOf, noOpening, standingOf, walkOf, openedWalk, refusedWalk};
 
 // Where a walk stands: among the records of the file; at its accepted end; or refused, with the place and the reason.

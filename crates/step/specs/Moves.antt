@@ -16,12 +16,13 @@ use Rattle.edits.specs.declared.Opening.{Opening}
 use Rattle.edits.specs.declared.Phase.{Phase}
 use Rattle.edits.specs.declared.Seen.{Seen}
 use Rattle.edits.specs.declared.Totals.{Totals}
-use Rattle.record.specs.Judge.{Judged, refusal, passed, judge, seenOn}
-use Rattle.record.specs.Place.{endEdits}
-use Rattle.record.specs.declared.said.Said.{Said}
-use Rattle.record.specs.declared.said.Said.the-variants.{OfA, OfE, OfS, OfT, OfF, OfNone}
+use Rattle.shape.specs.Shape.{Judged, refusal, passed}
+use Rattle.record.specs.Judge.{judge, seenOn}
+use Rattle.shape.specs.Ends.{endEdits}
+use Rattle.shape.specs.declared.Said.{Said}
+use Rattle.shape.specs.declared.Said.the-variants.{OfA, OfE, OfS, OfT, OfF, OfNone}
 use Rattle.tables.specs.Room.{Room, entriesUsed}
-use Rattle.meaning.specs.Before.{phaseAfter, filedAfter, openAfter, totalsAfter}
+use Rattle.shape.specs.After.{phaseAfter, filedAfter, openAfter, usedAfter, totalsAfter}
 use Rattle.state.specs.Unfit.{unfit}
 use Rattle.state.specs.Walks.{Standing, reading, accepted, refused, Walk, phaseOf, walkOf, openedWalk, refusedWalk}
 use Rattle.step.specs.declared.Change.{Change}
@@ -94,19 +95,6 @@ after walk phase filed this all used =
       used = used;
     }
 
--- "only such numbers take room"
-abbrev pub oneUsed : ℕ → ℕ → ℕ
-oneUsed used id = if eqb id 0 then used else used + 1
-
--- How many ids are in use: an S adds its own, and every other record leaves none.
-abbrev pub usedAfter : Said → ℕ → ℕ
-usedAfter (OfA quarter) used = 0
-usedAfter (OfE employer) used = 0
-usedAfter (OfS employee) used = oneUsed used (employee .id)
-usedAfter OfT used = 0
-usedAfter OfF used = 0
-usedAfter OfNone used = 0
-
 abbrev pub walkAfter : Said → Walk → Walk
 walkAfter said walk =
     after walk (phaseAfter said (phaseOf (walk .standing))) (filedAfter said (walk .filed)) (openAfter said (walk .open))
@@ -154,7 +142,7 @@ lineSeen room seen walk line = if unfit room walk then stays 72 walk else byStan
 
 -- A line: `earlier` says of a FEIN whether it stands on an earlier E, `under` of an identity number whether it stands under the open E.
 abbrev pub lineMoved : Room → (ℕ → Bool) → (ℕ → Bool) → Walk → Line → Moved
-lineMoved room earlier under walk line = lineSeen room (seenOn earlier under (capitals (line .text))) walk line
+lineMoved room earlier under walk line = lineSeen room (seenOn (walk .held .format) earlier under (capitals (line .text))) walk line
 
 -- ---- the end
 abbrev pub accepts : Walk → Moved

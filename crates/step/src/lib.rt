@@ -11,11 +11,10 @@ use reason::Refusal;
 use state::Stage;
 use state::State;
 use state::fitness;
-ghost use Prim.Native.Nat.{_≤_};
+ghost use Prim.Native.Nat.{_<_};
 ghost use mathlib.Core.Path.{_≡_};
 ghost use Rattle.reason.specs.Numbers.{numberOf, noticeOf};
 ghost use Rattle.edits.specs.Formats.{openingNumber};
-ghost use Rattle.state.specs.Unfit.{mostLines};
 ghost use Rattle.state.specs.Walks.{walkOf, reading};
 ghost use Rattle.step.specs.Moves.{takenIn, movedBy, stays as staysOf, again as againOf, refuses, accepts, endStanding, endMoved, openMoved};
 
@@ -101,7 +100,7 @@ fn again(st: State, refusal: Refusal) -> Move
 
 // A refusal at the line behind those read: the walk ends, both tables are zeroed.
 fn refuse(st: State, column: u16, reason: Reason) -> Move
-    requires { ⌜ st .lines ≤ mostLines ⌝ }
+    requires { ⌜ st .lines < 4294967295 ⌝ }
     ensures { λ r. ⌜ movedBy r ≡ refuses (walkOf st) column (numberOf reason) ⌝ }
 {
     let held = st.held;
@@ -147,10 +146,10 @@ fn accept(st: State) -> Move
 }
 
 fn end_reading(st: State, phase: Phase) -> Move
-    requires { ⌜ st .lines ≤ mostLines ⌝ }
+    requires { ⌜ st .lines < 4294967295 ⌝ }
     ensures { λ r. ⌜ movedBy r ≡ endStanding (walkOf st) (reading phase) ⌝ }
 {
-    let e = record::place::end_edit(phase);
+    let e = shape::end_edit(phase);
     match e {
         Edit::Passed => accept(st),
         Edit::Broken(column, reason) => refuse(st, column, reason),

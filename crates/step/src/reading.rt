@@ -10,26 +10,26 @@ use edits::Phase;
 use edits::Seen;
 use edits::Totals;
 use reason::Reason;
-use record::Verdict;
-use record::said::EmployeeOn;
-use record::said::EmployerOn;
-use record::said::Said;
+use shape::EmployeeOn;
+use shape::EmployerOn;
+use shape::Said;
+use shape::Verdict;
 use state::Stage;
 use state::State;
 use state::fitness;
-ghost use Prim.Native.Nat.{_≤_};
+ghost use Prim.Native.Nat.{_<_};
 ghost use mathlib.Core.Bool.{false};
 ghost use mathlib.Core.Path.{_≡_};
 ghost use Rattle.lines.specs.Lines.{firstLine};
-ghost use Rattle.meaning.specs.Before.{withOne, oneEmployee};
-ghost use Rattle.state.specs.Unfit.{mostLines, unfit};
+ghost use Rattle.shape.specs.After.{withOne, oneEmployee};
+ghost use Rattle.state.specs.Unfit.{unfit};
 ghost use Rattle.state.specs.Walks.{reading, walkOf};
 ghost use Rattle.step.specs.Moves.{movedBy, allWell, after as afterOf, goesOn, contextOf, byStanding, lineSeen};
 ghost use Rattle.step.specs.Ready.{Ready};
 
 // One line more.
 fn after(st: State, phase: Phase, filed: Quarter, e: Open, all: Totals, used: usize) -> State
-    requires { ⌜ st .lines ≤ mostLines ⌝ }
+    requires { ⌜ st .lines < 4294967295 ⌝ }
     ensures { λ r. ⌜ walkOf r ≡ afterOf (walkOf st) phase filed e all used ⌝ }
 {
     let held = st.held;
@@ -108,7 +108,7 @@ fn with_one(st: State, s: EmployeeOn, used: usize) -> State
         follow: open.follow,
         count: open.count + 1,
         sum: open.sum + s.wages,
-        second: open.second,
+        second: open.second + s.second,
         others: open.others,
         nearest: open.nearest,
         noted: open.noted,
@@ -119,7 +119,7 @@ fn with_one(st: State, s: EmployeeOn, used: usize) -> State
         count: all.count + 1,
         employers: all.employers,
         sum: all.sum + s.wages,
-        second: all.second,
+        second: all.second + s.second,
         others: all.others,
         notes: all.notes,
     };

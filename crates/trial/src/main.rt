@@ -10,7 +10,7 @@ use edits::Phase;
 use edits::Seen;
 use edits::Totals;
 use edits::format::Format;
-use record::Verdict;
+use shape::Verdict;
 ghost use Prim.Native.Nat.{_≤_};
 ghost use lib.ListN.{length};
 

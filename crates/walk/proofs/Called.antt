@@ -1,18 +1,15 @@
 -- The functions that the walks of this crate call, but for those of the tables.
 use Prim.Native.Nat.{_+_, _≤_}
 use mathlib.Core.Path.{_≡_, refl}
-use lib.ListN.{length, take, drop}
+use lib.ListN.{length, drop}
 use contract.Monad.{factI}
 use denote.Struct.Laws as LL
-use Rattle.chars.specs.Characters.{capitals}
 use Rattle.lines.specs.Lines.{firstLine}
-use Rattle.record.specs.Judge.{kindOn, feinOn, idOn}
 use Rattle.tables.specs.Room.{tables}
-use Rattle.tables.specs.Tables.{isAmong}
 use Rattle.tables.proofs.Walk.{URA, Heap, Atoms, Given, Memory, Routine, Fun, SProp, emp, id⊢, w64, vint, vunit, uint-tells, nothing-tells, Callee, total}
 use Rattle.state.specs.Walks.{walkOf}
 use Rattle.step.specs.Moves.{takenIn, movedBy, openMoved, lineSeen, endMoved}
-use Rattle.step.specs.Questions.{entriesAsked, idsAsked}
+use Rattle.step.specs.Questions.{feinAskedBy, idAskedBy, lookedAt, idFound}
 use Rattle.step.specs.Steps.{idsAfter, listAfter, outOf, openStep, lineStep, endStep}
 use Rattle.step.proofs.Answer as An
 use Rattle.step.proofs.Answer.Laws as An′
@@ -61,13 +58,13 @@ module _ {M : Type 1} {𝓤 : URA M} {H : Heap 𝓤} {A : Atoms 𝓤} (W : Given
 
   abbrev pub asked-at : Callee W
   asked-at = total W asked-at-fn.ended (asked-at-fn.clauses 𝓤 H A mem run) (λ κs a g. id⊢ 𝓤 (emp 𝓤))
-      (λ κs a g r ws. let s = capitals (drop (a .1 .1 .0) (a .1 .0 .now)) in _≡_ {A = Asked} r (record { entries = entriesAsked (kindOn s) (a .0 .all .employers); fein = feinOn s })) (λ κs a g r ws. refl)
+      (λ κs a g r ws. let asking = feinAskedBy (a .0 .held .format) (drop (a .1 .1 .0) (a .1 .0 .now)) in _≡_ {A = Asked} r (record { entries = lookedAt asking (a .0 .all .employers); fein = asking .number })) (λ κs a g r ws. refl)
       (λ κs. LL.val K.the-type K′.the-laws) (λ κs. LL.tells K.the-type K′.the-laws)
 
   abbrev pub move-at : Callee W
   move-at = total W move-at-fn.ended (move-at-fn.clauses 𝓤 H A mem run) (λ κs a g. id⊢ 𝓤 (emp 𝓤))
       (λ κs a g r ws. let s = drop (a .1 .1 .0) (a .1 .0 .now) in let ids = a .1 .1 .1 .0 .now in
-      movedBy r ≡ lineSeen (record { ids = length ids; list = a .1 .1 .1 .1 .0 }) (record { fein = a .1 .1 .1 .1 .1 .0; id = isAmong (idOn (capitals s)) (take (idsAsked (kindOn (capitals s)) (a .0 .used)) ids) }) (walkOf (a .0)) (firstLine s))
+      movedBy r ≡ lineSeen (record { ids = length ids; list = a .1 .1 .1 .1 .0 }) (record { fein = a .1 .1 .1 .1 .1 .0; id = idFound (idAskedBy (a .0 .held .format) s) (a .0 .used) ids }) (walkOf (a .0)) (firstLine s))
       (λ κs a g r ws. refl) (λ κs. LL.val Mv.the-type Mv′.the-laws) (λ κs. LL.tells Mv.the-type Mv′.the-laws)
 
   abbrev pub next-place : Callee W

@@ -1,22 +1,20 @@
 -- The state and the tables that the records before leave, as functions of them, and what holds of records that were taken.
 use Prim.Native.Nat.{ℕ, _+_, _*_, _≤_}
 use mathlib.Core.List.{List}
-use mathlib.Core.Logic.{_⊎_}
-use mathlib.Core.Bool.{true}
+use mathlib.Core.Bool.{false}
 use mathlib.Core.Path.{_≡_}
 use lib.ListN.{length}
-use Rattle.calendar.specs.Quarters.{isReportable}
-use Rattle.edits.specs.Formats.{quarterHeld}
 use Rattle.edits.specs.declared.Opening.{Opening}
 use Rattle.edits.specs.declared.Phase.{Phase}
 use Rattle.edits.specs.declared.Phase.the-variants.{BeforeA, AfterA, EOpen, AfterT, AfterF}
-use Rattle.record.specs.Place.{mostEmployees}
-use Rattle.record.specs.declared.said.Said.{Said}
+use Rattle.shape.specs.Limits.{mostEmployees, mostFein}
+use Rattle.shape.specs.Phases.{stands}
+use Rattle.shape.specs.declared.Said.{Said}
+use Rattle.record.specs.Formats.{shapeOf}
 use Rattle.tables.specs.Pad.{pad}
 use Rattle.tables.specs.Room.{Room, Tables, tables, entriesUsed}
 use Rattle.tables.specs.Tables.{noEmployer}
 use Rattle.meaning.specs.Before.{phaseIn, filedIn, openIn, idsUnder, totalsIn, entriesIn}
-use Rattle.state.specs.Unfit.{mostWages, mostFein}
 use Rattle.state.specs.Walks.{Standing, reading, accepted, Walk}
 
 -- The state of a walk that stands so after these records.
@@ -73,10 +71,11 @@ pub record Good (room : Room) (held : Opening) (p : List Said) : Type 0 where
   -- An open E is one of those counted.
   pub some : opens (phaseIn p) ≤ totalsIn p .employers
   pub many : totalsIn p .count ≤ mostEmployees
-  pub sum : totalsIn p .sum ≤ totalsIn p .count * mostWages
+  pub sum : totalsIn p .sum ≤ totalsIn p .count * shapeOf (held .format) .mostCents
   pub under : openIn p .count ≤ totalsIn p .count
-  pub under-sum : openIn p .sum ≤ openIn p .count * mostWages
+  pub under-sum : openIn p .sum ≤ openIn p .count * shapeOf (held .format) .mostCents
   pub fein : openIn p .fein ≤ mostFein
-  pub quarter : (phaseIn p ≡ BeforeA) ⊎ (isReportable (quarterHeld held) (filedIn p) ≡ true)
+  pub quarter : shapeOf (held .format) .quarterUnfit (phaseIn p) held (filedIn p) ≡ false
+  pub more : shapeOf (held .format) .unfitMore (room .ids) (length (idsUnder p)) (stands EOpen (phaseIn p)) (totalsIn p) (openIn p) ≡ false
   -- Each E has at most one T, and an open one none yet.
   pub lines : length p + opens (phaseIn p) ≤ begun (phaseIn p) + (totalsIn p .employers + totalsIn p .employers) + totalsIn p .count + done (phaseIn p)

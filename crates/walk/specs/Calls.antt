@@ -1,5 +1,5 @@
 -- The calls of demands 2 and 3: opening, line calls while any byte remains and none is refused, then one end call.
-use Prim.Native.Nat.{ℕ, zero, suc, _-_, _≤_}
+use Prim.Native.Nat.{ℕ, zero, suc, _+_, _-_, _≤_}
 use mathlib.Core.List.{List, [], _∷_}
 use mathlib.Core.Logic.{_⊎_}
 use lib.Dec.{eqb}
@@ -10,7 +10,8 @@ use Rattle.reason.specs.Numbers.{Notice}
 use Rattle.edits.specs.Formats.{mayOpen}
 use Rattle.edits.specs.declared.Opening.{Opening}
 use Rattle.edits.specs.declared.format.Format.{Format}
-use Rattle.record.specs.declared.said.Said.{Said}
+use Rattle.shape.specs.declared.Said.{Said}
+use Rattle.record.specs.Formats.{shapeOf}
 use Rattle.tables.specs.Pad.{pad}
 use Rattle.tables.specs.Room.{Room, Tables, tables, roomOf, zeroed}
 use Rattle.tables.specs.Tables.{noEmployer}
@@ -20,10 +21,10 @@ use Rattle.step.specs.Moves.{allWell, openingNotice}
 use Rattle.step.specs.Steps.{Out, openStep, lineStep, endStep}
 use Rattle.walk.specs.At.{acceptedAt}
 
--- How many bytes a call is lent, by how many remain: "all that remains, or at least 292 bytes". No two calls of a walk have as many bytes before
--- them, so whatever a caller lends is one of these.
-abbrev pub Lending : (ℕ → ℕ) → Type 0
-Lending lend = (remain : ℕ) → (292 ≤ lend remain) ⊎ (remain ≤ lend remain)
+-- How many bytes a call is lent, by how many remain: "all that remains, or at least 292 bytes", which is a line's length and two more. No two calls of a walk
+-- have as many bytes before them, so whatever a caller lends is one of these.
+abbrev pub Lending : Format → (ℕ → ℕ) → Type 0
+Lending format lend = (remain : ℕ) → (shapeOf format .length + 2 ≤ lend remain) ⊎ (remain ≤ lend remain)
 
 -- "calls that are each lent the file from where the last one ended": line calls while any byte remains and none is refused ("0 if refused"), then one
 -- end call, after a refusal too. `skip` bytes still belong to the line taken last.
@@ -38,7 +39,7 @@ calls lend zero (b ∷ rest) walk t =
 abbrev pub walked : (ℕ → ℕ) → Opening → List ℕ → Tables → Out
 walked lend held file t = calls lend 0 file (openStep held t .walk) (openStep held t .left)
 
--- What a refusal from 1 to 65 leaves with the caller, in a walk of this format.
+-- What a refusal by an edit leaves with the caller, in a walk of this format.
 abbrev pub refusedWith : Format → Notice → Room → Out
 refusedWith format says room = record { says = says; taken = 0; walk = refusedWalk format says; left = zeroed room }
 
@@ -57,5 +58,5 @@ leaves room held p (refused says) = refusedWith (held .format) says room
 abbrev pub wholeFile : Opening → List ℕ → Tables → Out
 wholeFile held file t =
     if mayOpen held
-    then leaves (roomOf t) held (recordsOnto [] (linesOf file)) (meaning (roomOf t) held file)
+    then leaves (roomOf t) held (recordsOnto (held .format) [] (linesOf file)) (meaning (roomOf t) held file)
     else record { says = openingNotice held; taken = 0; walk = refusedWalk (held .format) (openingNotice held); left = t }

@@ -3,18 +3,14 @@ use Prim.Native.Nat.{ℕ}
 use mathlib.Core.Bool.{Bool}
 use mathlib.Core.List.{List}
 use mathlib.Core.Path.{_≡_, ap, _∙_}
-use lib.ListN.{take}
-use Rattle.chars.specs.Characters.{capitals}
 use Rattle.lines.specs.Lines.{firstLine}
 use Rattle.edits.specs.declared.Opening.{Opening}
-use Rattle.record.specs.Judge.{kindOn, feinOn, idOn}
 use Rattle.tables.specs.Room.{Tables, tables, roomOf}
-use Rattle.tables.specs.Tables.{feinsOf, isAmong}
 use Rattle.tables.specs.declared.Employer.{Employer}
 use Rattle.state.specs.Walks.{Walk}
 use Rattle.step.specs.Moves.{Moved, movedBy, lineSeen, endMoved, openMoved}
 use Rattle.step.specs.QuestionLaws.{line-asked}
-use Rattle.step.specs.Questions.{entriesAsked, idsAsked}
+use Rattle.step.specs.Questions.{feinAskedBy, idAskedBy, feinFound, idFound}
 use Rattle.step.specs.Steps.{idsAfter, listAfter, written, carried, outOf, openStep, lineStep, endStep}
 use Rattle.step.specs.declared.Move.{Move}
 
@@ -37,11 +33,11 @@ module _ (m : Move) (ids : List ℕ) (list : List Employer) where
   end-carried walk e = made (endMoved (roomOf lent) walk) e
 
   pub line-carried : (walk : Walk) (s : List ℕ) (repeated : Bool)
-      → repeated ≡ isAmong (feinOn (capitals s)) (feinsOf (take (entriesAsked (kindOn (capitals s)) (walk .all .employers)) list))
-      → movedBy m ≡ lineSeen (roomOf lent) (record { fein = repeated; id = isAmong (idOn (capitals s)) (take (idsAsked (kindOn (capitals s)) (walk .used)) ids) }) walk (firstLine s)
+      → repeated ≡ feinFound (feinAskedBy (walk .held .format) s) (walk .all .employers) list
+      → movedBy m ≡ lineSeen (roomOf lent) (record { fein = repeated; id = idFound (idAskedBy (walk .held .format) s) (walk .used) ids }) walk (firstLine s)
       → outOf (m .answer) (written (m .change) lent) ≡ lineStep walk (firstLine s) lent
   line-carried walk s repeated asked e =
-      let under = isAmong (idOn (capitals s)) (take (idsAsked (kindOn (capitals s)) (walk .used)) ids) in
+      let under = idFound (idAskedBy (walk .held .format) s) (walk .used) ids in
       made _
       (e
       ∙ ap (λ (b : Bool). lineSeen (roomOf lent) (record { fein = b; id = under }) walk (firstLine s)) asked

@@ -10,7 +10,8 @@ use Rattle.reason.specs.Numbers.{Notice}
 use Rattle.lines.specs.Lines.{linesOf}
 use Rattle.edits.specs.Formats.{mayOpen}
 use Rattle.edits.specs.declared.Opening.{Opening}
-use Rattle.record.specs.declared.said.Said.{Said}
+use Rattle.edits.specs.declared.format.Format.{Format}
+use Rattle.shape.specs.declared.Said.{Said}
 use Rattle.tables.specs.Pad.{pad}
 use Rattle.tables.specs.Room.{Tables, roomOf}
 use Rattle.tables.specs.Tables.{noEmployer}
@@ -30,17 +31,17 @@ not-accepted : (says : Notice) → refused says ≡ accepted → ⊥
 not-accepted says e = let z : _≡_ {A = ℕ} 0 1 = cc in omega arith
 
 -- What an accepted walk reports. "Acceptance leaves the employer list, in file order: FEIN, S count, cents; later entries zero."
-pub record Reported (file : List ℕ) (t : Tables) (o : Out) : Type 0 where
-  pub list : o .left .list ≡ pad noEmployer (length (t .list)) (employersOf (recordsOf file))
+pub record Reported (format : Format) (file : List ℕ) (t : Tables) (o : Out) : Type 0 where
+  pub list : o .left .list ≡ pad noEmployer (length (t .list)) (employersOf (recordsOf format file))
   pub ids : o .left .ids ≡ replicate (length (t .ids)) 0
-  pub all : o .walk .all ≡ totalsOf (recordsOf file)
+  pub all : o .walk .all ≡ totalsOf (recordsOf format file)
 
 module _ (held : Opening) (file : List ℕ) (t : Tables) where
   abbrev records : List Said
-  records = recordsOnto [] (linesOf file)
+  records = recordsOnto (held .format) [] (linesOf file)
 
   pub reported : (outcome : Outcome) → meaning (roomOf t) held file ≡ outcome → leaves (roomOf t) held records outcome .walk .standing ≡ accepted
-      → Reported file t (leaves (roomOf t) held records outcome)
+      → Reported (held .format) file t (leaves (roomOf t) held records outcome)
   reported (meant.accepted entries totals) e ends =
       let is = employers-meant (roomOf t) held file entries totals e in
       let iff = accepted-iff (roomOf t) held file in
@@ -52,15 +53,15 @@ module _ (held : Opening) (file : List ℕ) (t : Tables) where
       }
   reported (meant.refused says) e ends = absurd (not-accepted says ends)
 
-  whole-reported : (allowed : Bool) → mayOpen held ≡ allowed → wholeFile held file t .walk .standing ≡ accepted → Reported file t (wholeFile held file t)
+  whole-reported : (allowed : Bool) → mayOpen held ≡ allowed → wholeFile held file t .walk .standing ≡ accepted → Reported (held .format) file t (wholeFile held file t)
   whole-reported true e ends =
       let same : wholeFile held file t ≡ leaves (roomOf t) held records (meaning (roomOf t) held file) = rw e in
-      subst (Reported file t) (sym same) (reported (meaning (roomOf t) held file) refl (sym (ap (λ (o : Out). o .walk .standing) same) ∙ ends))
+      subst (Reported (held .format) file t) (sym same) (reported (meaning (roomOf t) held file) refl (sym (ap (λ (o : Out). o .walk .standing) same) ∙ ends))
   whole-reported false e ends =
       let same : wholeFile held file t .walk .standing ≡ refused (openingNotice held) = rw e in
       absurd (not-accepted (openingNotice held) (sym same ∙ ends))
 
-  pub employers-are : (lend : ℕ → ℕ) → Lending lend → walked lend held file t .walk .standing ≡ accepted → Reported file t (walked lend held file t)
+  pub employers-are : (lend : ℕ → ℕ) → Lending (held .format) lend → walked lend held file t .walk .standing ≡ accepted → Reported (held .format) file t (walked lend held file t)
   employers-are lend lending ends =
-      let same = walk-means lend lending held file t in
-      subst (Reported file t) (sym same) (whole-reported (mayOpen held) refl (sym (ap (λ (o : Out). o .walk .standing) same) ∙ ends))
+      let same = walk-means held lend lending file t in
+      subst (Reported (held .format) file t) (sym same) (whole-reported (mayOpen held) refl (sym (ap (λ (o : Out). o .walk .standing) same) ∙ ends))

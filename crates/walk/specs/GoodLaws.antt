@@ -3,26 +3,27 @@ use Prim.Native.Nat.{ℕ, _+_, _≤_, _<_}
 use mathlib.Core.Bool.{Bool, true, false}
 use mathlib.Core.List.{List, [], _∷_, _++_}
 use mathlib.Core.Logic.{_⊎_, inl, inr}
-use mathlib.Core.Path.{_≡_, refl, sym, ap, _∙_}
+use mathlib.Core.Path.{_≡_}
 use native.Mathlib.Omega.{arith}
 use lib.Dec.{eqb, leb}
 use lib.ListN.{length, length-append}
 use borrow.Author.Tests.{eq-eqb, leb-false}
 use Rattle.laws.specs.Choice.{if_then_else_}
-use Rattle.calendar.specs.Quarters.{isReportable}
 use Rattle.calendar.specs.declared.Quarter.{Quarter}
-use Rattle.edits.specs.Formats.{quarterHeld}
 use Rattle.edits.specs.declared.Opening.{Opening}
-use Rattle.edits.specs.declared.Phase.{Phase}
-use Rattle.edits.specs.declared.Phase.the-variants.{BeforeA, AfterA, EOpen, AfterT}
-use Rattle.record.specs.Passed.{Fits, Bounded}
-use Rattle.record.specs.declared.said.EmployeeOn.{EmployeeOn}
-use Rattle.record.specs.declared.said.EmployerOn.{EmployerOn}
-use Rattle.record.specs.declared.said.Said.{Said}
-use Rattle.record.specs.declared.said.Said.the-variants.{OfA, OfE, OfS, OfT, OfF, OfNone}
+use Rattle.edits.specs.declared.Phase.the-variants.{AfterA, EOpen, AfterT}
+use Rattle.shape.specs.Fits.{Fits, Bounded}
+use Rattle.shape.specs.Phases.{stands}
+use Rattle.shape.specs.declared.EmployeeOn.{EmployeeOn}
+use Rattle.shape.specs.declared.EmployerOn.{EmployerOn}
+use Rattle.shape.specs.declared.Said.{Said}
+use Rattle.shape.specs.declared.Said.the-variants.{OfA, OfE, OfS, OfT, OfF, OfNone}
+use Rattle.record.specs.Formats.{shapeOf, lawfulOf}
 use Rattle.tables.specs.Room.{Room, entriesUsed}
-use Rattle.meaning.specs.Before.{phaseIn, filedIn, andId, idsUnder, totalsIn}
-use Rattle.meaning.specs.Meaning.{contextAt, onEarlierE, underThisE}
+use Rattle.shape.specs.After.{phaseAfter, filedAfter, openAfter, andId, idsWith, totalsAfter}
+use Rattle.meaning.specs.Before.{phaseIn, filedIn, openIn, idsUnder, totalsIn}
+use Rattle.meaning.specs.Meaning.{contextAt}
+use Rattle.state.specs.Cents.{one-more}
 use Rattle.walk.specs.At.{begun, done, Good}
 
 pub length-snoc : {A : Type 0} (l : List A) (x : A) → length (l ++ (x ∷ [])) ≡ length l + 1
@@ -39,17 +40,10 @@ good-none room held =
       under = omega arith;
       under-sum = omega arith;
       fein = omega arith;
-      quarter = inl refl;
+      quarter = lawfulOf (held .format) .quarter-none held;
+      more = lawfulOf (held .format) .more-none (room .ids);
       lines = omega arith;
     }
-
--- A later phase than BeforeA leaves A's quarter reportable.
-pub still-reportable : (held : Opening) (p : List Said) (phase : Phase) → phaseIn p ≡ phase → begun phase ≡ 1
-    → (phaseIn p ≡ BeforeA) ⊎ (isReportable (quarterHeld held) (filedIn p) ≡ true) → isReportable (quarterHeld held) (filedIn p) ≡ true
-still-reportable held p phase e later (inl before) =
-    let z : begun BeforeA ≡ 1 = ap begun (sym before ∙ e) ∙ later in
-    absurd (omega arith)
-still-reportable held p phase e later (inr reportable) = reportable
 
 -- An S record takes room for its number, unless that is zero.
 ids-grow : (ids : List ℕ) (id room : ℕ) → length ids ≤ room → (id ≡ 0) ⊎ (length ids < room) → length (andId ids id) ≤ room
@@ -64,13 +58,16 @@ e-place : (p : List Said) → (phaseIn p ≡ AfterA) ⊎ (phaseIn p ≡ AfterT) 
 e-place p (inl a) = (rw a, rw a)
 e-place p (inr t) = (rw t, rw t)
 
-module _ (room : Room) (held : Opening) (p : List Said) (g : Good room held p) where
-  reportable-after : (phase : Phase) → phaseIn p ≡ phase → begun phase ≡ 1 → isReportable (quarterHeld held) (filedIn p) ≡ true
-  reportable-after phase e later = still-reportable held p phase e later (g .quarter)
+-- What holds of any record behind those taken: its quarter and the format's own numbers are not unfit.
+pub record Kept (room : Room) (held : Opening) (p : List Said) (said : Said) : Type 0 where
+  pub quarter : shapeOf (held .format) .quarterUnfit (phaseAfter said (phaseIn p)) held (filedAfter said (filedIn p)) ≡ false
+  pub more : shapeOf (held .format) .unfitMore (room .ids) (length (idsWith said (idsUnder p))) (stands EOpen (phaseAfter said (phaseIn p))) (totalsAfter said (totalsIn p))
+      (openAfter said (openIn p)) ≡ false
 
-  good-a : (quarter : Quarter) → Fits (contextAt room held p) (onEarlierE p) (underThisE p) (OfA quarter) → Good room held (OfA quarter ∷ p)
-  good-a quarter fits =
-      let lines = rw (fits .0) at (g .lines) in
+module _ (room : Room) (held : Opening) (p : List Said) (g : Good room held p) where
+  good-a : (quarter : Quarter) → Fits (contextAt room held p) (OfA quarter) → Kept room held p (OfA quarter) → Good room held (OfA quarter ∷ p)
+  good-a quarter fits kept =
+      let lines = rw fits at (g .lines) in
       record {
         ids-fit = omega arith;
         list-fit = g .list-fit;
@@ -80,12 +77,13 @@ module _ (room : Room) (held : Opening) (p : List Said) (g : Good room held p) w
         under = omega arith;
         under-sum = omega arith;
         fein = omega arith;
-        quarter = inr (fits .1);
+        quarter = kept .quarter;
+        more = kept .more;
         lines = omega (arith, lines);
       }
 
-  good-e : (e : EmployerOn) → Fits (contextAt room held p) (onEarlierE p) (underThisE p) (OfE e) → e .fein < 1000000000 → Good room held (OfE e ∷ p)
-  good-e e fits small =
+  good-e : (e : EmployerOn) → Fits (contextAt room held p) (OfE e) → e .fein < 1000000000 → Kept room held p (OfE e) → Good room held (OfE e ∷ p)
+  good-e e fits small kept =
       let place = e-place p (fits .0) in
       let less : totalsIn p .employers < entriesUsed room = leb-false (entriesUsed room) (totalsIn p .employers) (fits .1) in
       record {
@@ -97,33 +95,35 @@ module _ (room : Room) (held : Opening) (p : List Said) (g : Good room held p) w
         under = omega arith;
         under-sum = omega arith;
         fein = omega arith;
-        quarter = inr (still-reportable held p (phaseIn p) refl (place .0) (g .quarter));
+        quarter = kept .quarter;
+        more = kept .more;
         lines = omega (arith, g .lines, place);
       }
 
-  good-s : (s : EmployeeOn) → Fits (contextAt room held p) (onEarlierE p) (underThisE p) (OfS s) → s .wages < 100000000000000 → Good room held (OfS s ∷ p)
-  good-s s fits small =
+  good-s : (s : EmployeeOn) → Fits (contextAt room held p) (OfS s) → s .wages ≤ shapeOf (held .format) .mostCents → Kept room held p (OfS s) → Good room held (OfS s ∷ p)
+  good-s s fits small kept =
       let lines = rw (fits .0) at (g .lines) in
       record {
-        ids-fit = ids-grow (idsUnder p) (s .id) (room .ids) (g .ids-fit) (new (fits .3));
+        ids-fit = ids-grow (idsUnder p) (s .id) (room .ids) (g .ids-fit) (free (fits .3));
         list-fit = g .list-fit;
         some = rw (fits .0) at (g .some);
         many = omega (arith, fits .2);
-        sum = omega (arith, g .sum);
+        sum = one-more (totalsIn p .count) (shapeOf (held .format) .mostCents) (totalsIn p .sum) (s .wages) (g .sum) small;
         under = omega (arith, g .under);
-        under-sum = omega (arith, g .under-sum);
+        under-sum = one-more (openIn p .count) (shapeOf (held .format) .mostCents) (openIn p .sum) (s .wages) (g .under-sum) small;
         fein = g .fein;
-        quarter = inr (reportable-after EOpen (fits .0) refl);
+        quarter = kept .quarter;
+        more = kept .more;
         lines = omega (arith, lines);
       }
     where
-      new : (s .id ≡ 0) ⊎ ((leb (room .ids) (length (idsUnder p)) ≡ false) × (underThisE p (s .id) ≡ false)) → (s .id ≡ 0) ⊎ (length (idsUnder p) < room .ids)
-      new (inl none) = inl none
-      new (inr free) = inr (leb-false (room .ids) (length (idsUnder p)) (free .0))
+      free : (s .id ≡ 0) ⊎ (leb (room .ids) (length (idsUnder p)) ≡ false) → (s .id ≡ 0) ⊎ (length (idsUnder p) < room .ids)
+      free (inl none) = inl none
+      free (inr room-left) = inr (leb-false (room .ids) (length (idsUnder p)) room-left)
 
-  good-t : Fits (contextAt room held p) (onEarlierE p) (underThisE p) OfT → Good room held (OfT ∷ p)
-  good-t fits =
-      let lines = rw fits at (g .lines) in
+  good-t : phaseIn p ≡ EOpen → Kept room held p OfT → Good room held (OfT ∷ p)
+  good-t place kept =
+      let lines = rw place at (g .lines) in
       record {
         ids-fit = omega arith;
         list-fit = g .list-fit;
@@ -133,13 +133,14 @@ module _ (room : Room) (held : Opening) (p : List Said) (g : Good room held p) w
         under = omega arith;
         under-sum = omega arith;
         fein = omega arith;
-        quarter = inr (reportable-after EOpen fits refl);
+        quarter = kept .quarter;
+        more = kept .more;
         lines = omega (arith, lines);
       }
 
-  good-f : Fits (contextAt room held p) (onEarlierE p) (underThisE p) OfF → Good room held (OfF ∷ p)
-  good-f fits =
-      let lines = rw fits at (g .lines) in
+  good-f : phaseIn p ≡ AfterT → Kept room held p OfF → Good room held (OfF ∷ p)
+  good-f place kept =
+      let lines = rw place at (g .lines) in
       record {
         ids-fit = omega arith;
         list-fit = g .list-fit;
@@ -149,14 +150,15 @@ module _ (room : Room) (held : Opening) (p : List Said) (g : Good room held p) w
         under = omega arith;
         under-sum = omega arith;
         fein = omega arith;
-        quarter = inr (reportable-after AfterT fits refl);
+        quarter = kept .quarter;
+        more = kept .more;
         lines = omega (arith, lines);
       }
 
-  pub good-more : (said : Said) → Fits (contextAt room held p) (onEarlierE p) (underThisE p) said → Bounded said → Good room held (said ∷ p)
-  good-more (OfA quarter) fits small = good-a quarter fits
-  good-more (OfE e) fits small = good-e e fits small
-  good-more (OfS s) fits small = good-s s fits (small .1)
-  good-more OfT fits small = good-t fits
-  good-more OfF fits small = good-f fits
-  good-more OfNone fits small = absurd fits
+  pub good-more : (said : Said) → Fits (contextAt room held p) said → Bounded (shapeOf (held .format)) said → Kept room held p said → Good room held (said ∷ p)
+  good-more (OfA quarter) fits small kept = good-a quarter fits kept
+  good-more (OfE e) fits small kept = good-e e fits small kept
+  good-more (OfS s) fits small kept = good-s s fits (small .1) kept
+  good-more OfT fits small kept = good-t fits kept
+  good-more OfF fits small kept = good-f fits kept
+  good-more OfNone fits small kept = absurd fits

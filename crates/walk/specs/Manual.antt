@@ -4,29 +4,30 @@ use Prim.Native.Nat.{ℕ}
 use mathlib.Core.Bool.{true}
 use mathlib.Core.List.{List, []}
 use mathlib.Core.Path.{_≡_, refl, sym, ap, subst, _∙_}
-use native.Mathlib.Omega.{arith}
 use Rattle.reason.specs.Numbers.{Notice}
 use Rattle.lines.specs.Lines.{linesOf}
 use Rattle.tables.specs.Room.{Tables, roomOf}
 use Rattle.edits.specs.Formats.{mayOpen}
 use Rattle.edits.specs.declared.Opening.{Opening}
+use Rattle.edits.specs.declared.format.Format.{Format}
 use Rattle.meaning.specs.Meaning as meant
 use Rattle.meaning.specs.Meaning.{LineEdit, fileEdits, Outcome, recordsOnto, meaning}
 use Rattle.meaning.specs.Theorems.{NoneBroken, FirstBroken, not-refused, accepted-iff, first-is-first}
+use Rattle.state.specs.UnfitLaws.{edit-not-0}
 use Rattle.step.specs.Moves.{allWell}
 use Rattle.step.specs.Steps.{Out}
-use Rattle.walk.specs.AtEnd.{refused-numbered}
+use Rattle.walk.specs.AtEnd.{refused-by-edit}
 use Rattle.walk.specs.Calls.{Lending, walked, leaves, wholeFile}
 use Rattle.walk.specs.Employers.{Reported, reported}
 use Rattle.walk.specs.Means.{walk-means}
 
 -- What the manual says of a file with these edits, of what a caller has at the end.
-pub record AsInManual (edits : List LineEdit) (file : List ℕ) (t : Tables) (o : Out) : Type 0 where
+pub record AsInManual (format : Format) (edits : List LineEdit) (file : List ℕ) (t : Tables) (o : Out) : Type 0 where
   -- "'accepted' means the published edits found nothing": it is answered exactly if none is broken,
   pub accepted-none-broken : o .says ≡ allWell → NoneBroken edits
   pub none-broken-accepted : NoneBroken edits → o .says ≡ allWell
   -- "with each employer's totals below it": the employers of the file are then in the list.
-  pub employers : o .says ≡ allWell → Reported file t o
+  pub employers : o .says ≡ allWell → Reported format file t o
   -- "'refused' gives the first line, column and reason": any other answer is the first broken edit in the stated order.
   pub refused-first : (o .says ≡ allWell → ⊥) → FirstBroken edits (o .says)
 
@@ -38,10 +39,10 @@ module _ (held : Opening) (allowed : mayOpen held ≡ true) (file : List ℕ) (t
   refused-otherwise : (says : Notice) → meaning (roomOf t) held file ≡ meant.refused says → says ≡ allWell → ⊥
   refused-otherwise says e well =
       let zero : says .number ≡ 0 = ap (λ (n : Notice). n .number) well in
-      omega (arith, zero, refused-numbered (roomOf t) held says (linesOf file) [] e .0)
+      edit-not-0 (held .format) (says .number) (refused-by-edit (roomOf t) held says (linesOf file) [] e) zero
 
   by-outcome : (outcome : Outcome) → meaning (roomOf t) held file ≡ outcome
-      → AsInManual edits file t (leaves (roomOf t) held (recordsOnto [] (linesOf file)) outcome)
+      → AsInManual (held .format) edits file t (leaves (roomOf t) held (recordsOnto (held .format) [] (linesOf file)) outcome)
   by-outcome (meant.accepted entries totals) e =
       let none = accepted-iff (roomOf t) held file .1 entries totals e in
       record {
@@ -60,9 +61,9 @@ module _ (held : Opening) (allowed : mayOpen held ≡ true) (file : List ℕ) (t
       }
 
   -- "Demand 2 takes an opening that isn't refused." Of a whole file in one slice,
-  pub whole-as-in-manual : AsInManual edits file t (wholeFile held file t)
+  pub whole-as-in-manual : AsInManual (held .format) edits file t (wholeFile held file t)
   whole-as-in-manual = rw allowed (by-outcome (meaning (roomOf t) held file) refl)
 
   -- and of opening, line calls and one end call, for every lending.
-  pub calls-as-in-manual : (lend : ℕ → ℕ) → Lending lend → AsInManual edits file t (walked lend held file t)
-  calls-as-in-manual lend lending = subst (AsInManual edits file t) (sym (walk-means lend lending held file t)) whole-as-in-manual
+  pub calls-as-in-manual : (lend : ℕ → ℕ) → Lending (held .format) lend → AsInManual (held .format) edits file t (walked lend held file t)
+  calls-as-in-manual lend lending = subst (AsInManual (held .format) edits file t) (sym (walk-means held lend lending file t)) whole-as-in-manual

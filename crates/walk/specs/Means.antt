@@ -14,26 +14,28 @@ use Rattle.lines.specs.Laws.{from-nil, from-skip, from-line}
 use Rattle.lines.specs.Lines.{Line, firstLine, sizeOf, linesFrom}
 use Rattle.lines.specs.Window.{Lent}
 use Rattle.calendar.specs.Quarters.{isAllowed}
+use Rattle.chars.specs.Characters.{capitals}
 use Rattle.edits.specs.FormatLaws.{opens-known}
 use Rattle.edits.specs.Formats.{isKnown, quarterHeld, mayOpen, isOfOpening}
 use Rattle.edits.specs.declared.Opening.{Opening}
 use Rattle.edits.specs.declared.Phase.{Phase}
 use Rattle.edits.specs.declared.Phase.the-variants.{BeforeA, AfterA, EOpen, AfterT, AfterF}
 use Rattle.edits.specs.declared.format.Format.{Format}
-use Rattle.record.specs.Among.{passed-size, passed-positive}
-use Rattle.record.specs.Judge.{Judged, refusal, passed}
-use Rattle.record.specs.Passed.{passed-fits, Bounded, said-bounded}
-use Rattle.record.specs.Numbered.{refusal-numbered}
-use Rattle.record.specs.PlaceTables.{endTest, end-parts}
-use Rattle.record.specs.declared.said.Said.{Said}
+use Rattle.record.specs.Laws.{passed-size, passed-positive, passed-fits, said-bounded, refusal-left, quarter-kept, more-kept}
+use Rattle.record.specs.Formats.{shapeOf}
+use Rattle.record.specs.Judge.{seenOn}
+use Rattle.shape.specs.Shape.{Judged, refusal, passed}
+use Rattle.shape.specs.Fits.{Bounded}
+use Rattle.shape.specs.EndLaws.{endTest, end-parts}
+use Rattle.shape.specs.declared.Said.{Said}
 use Rattle.tables.specs.Pad.{pad-none}
 use Rattle.tables.specs.Room.{Room, Tables, roomOf, zeroed}
 use Rattle.tables.specs.Tables.{noEmployer}
-use Rattle.meaning.specs.Before.{phaseIn, totalsIn, entriesIn}
+use Rattle.meaning.specs.Before.{phaseIn, idsUnder, totalsIn, entriesIn}
 use Rattle.meaning.specs.FileLaws.{onto-nil, onto-cons, meaning-end, meaning-refuses, meaning-goes-on}
 use Rattle.meaning.specs.Meaning.{contextAt, onEarlierE, underThisE, judgeAt, foundOn, recordsOnto, accepted, refused, outcomeBy, meaningFrom}
 use Rattle.state.specs.Unfit.{isLeft}
-use Rattle.state.specs.UnfitLaws.{left-number, left-opening, refused-fit}
+use Rattle.state.specs.UnfitLaws.{left-number, left-opening, edit-not-opening, refused-fit}
 use Rattle.state.specs.Walks as walks
 use Rattle.state.specs.Walks.{refusedWalk}
 use Rattle.step.specs.MoveLaws.{line-fit, end-fit, open-allowed, open-refused}
@@ -42,8 +44,8 @@ use Rattle.step.specs.Steps.{Out, carried, lineStep, endStep}
 use Rattle.walk.specs.At.{walkAt, tablesAt, Good}
 use Rattle.walk.specs.CallLaws.{pieces-are-whole, line-at, end-at}
 use Rattle.walk.specs.Calls.{Lending, calls, walked, refusedWith, leaves, wholeFile}
-use Rattle.walk.specs.GoodLaws.{good-none, good-more}
-use Rattle.walk.specs.StepLaws.{room-at, after-said, wrote, ids-none}
+use Rattle.walk.specs.GoodLaws.{Kept, good-none, good-more}
+use Rattle.walk.specs.StepLaws.{room-at, used-after, after-said, wrote, ids-none}
 
 -- ---- a refused walk
 module _ (format : Format) (says : Notice) where
@@ -58,15 +60,12 @@ module _ (format : Format) (says : Notice) where
   again-end e t =
       ap (λ (moved : Moved). carried moved t) (end-fit (roomOf t) (refusedWalk format says) (walks.refused says) (refused-fit (roomOf t) format says e) refl)
 
-not-of-opening : (number : ℕ) → (1 ≤ number) × (number ≤ 65) → isOfOpening number ≡ false
-not-of-opening number within = rw (ne-eqb number 70 (λ e. omega (arith, within)), ne-eqb number 73 (λ e. omega (arith, within)))
-
 -- The end call after a refusal.
-end-refused : (room : Room) (format : Format) (says : Notice) → isKnown format ≡ true → (1 ≤ says .number) × (says .number ≤ 65)
+end-refused : (room : Room) (format : Format) (says : Notice) → isKnown format ≡ true → shapeOf format .isLeft (says .number) ≡ true
     → endStep (refusedWalk format says) (zeroed room) ≡ refusedWith format says room
-end-refused room format says known within =
-    again-end format says (left-number format (says .number) known within) (zeroed room)
-    ∙ rw (not-of-opening (says .number) within, length-replicate, length-replicate)
+end-refused room format says known left =
+    again-end format says (left-number format (says .number) known left) (zeroed room)
+    ∙ rw (edit-not-opening format (says .number) left, length-replicate, length-replicate)
 
 -- What the calls do with the answer of a line.
 abbrev pub next : (ℕ → ℕ) → List ℕ → Out → Out
@@ -118,28 +117,39 @@ module _ (room : Room) (held : Opening) (allowed : mayOpen held ≡ true) where
       ∙ ap (λ (v : Judged). carried (byVerdict (walkAt held p) v) (tablesAt room p)) e
       ∙ rw (after-said held p said, wrote room held p g said fits)
 
+  -- No clause of 72 comes to hold behind a record that passes.
+  kept : (p : List Said) → Good room held p → (line : Line) (taken : ℕ) (said : Said) → judgeAt room held p line ≡ passed taken said → Kept room held p said
+  kept p g line taken said e =
+      let here = contextAt room held p in
+      let seen = seenOn (held .format) (onEarlierE p) (underThisE p) (capitals (line .text)) in
+      record {
+        quarter = quarter-kept here seen line taken said e (g .quarter);
+        more = rw (← used-after said (idsUnder p)) (more-kept here seen line taken said e (room .ids) (length (idsUnder p)) refl (g .more));
+      }
+
   pub taken-good : (p : List Said) → Good room held p → (line : Line) (taken : ℕ) (said : Said) → judgeAt room held p line ≡ passed taken said → Good room held (said ∷ p)
   taken-good p g line taken said e =
       let here = contextAt room held p in
       let is = passed-size here (onEarlierE p) (underThisE p) line taken said e .1 in
-      good-more room held p g said (passed-fits here (onEarlierE p) (underThisE p) line taken said e) (subst Bounded (sym is) (said-bounded line))
+      good-more room held p g said (passed-fits here (onEarlierE p) (underThisE p) line taken said e)
+      (subst (Bounded (shapeOf (held .format))) (sym is) (said-bounded (held .format) line)) (kept p g line taken said e)
 
-  module _ (lend : ℕ → ℕ) (lending : Lending lend) where
-    lent : (s : List ℕ) → Lent 290 (lend (length s)) s
+  module _ (lend : ℕ → ℕ) (lending : Lending (held .format) lend) where
+    lent : (s : List ℕ) → Lent (shapeOf (held .format) .length) (lend (length s)) s
     lent s = lending (length s)
 
     abbrev Walks : List ℕ → Type 0
     Walks bytes = (skip : ℕ) (p : List Said) → Good room held p
-        → calls lend skip bytes (walkAt held p) (tablesAt room p) ≡ leaves room held (recordsOnto p (linesFrom skip bytes)) (meaningFrom room held p (linesFrom skip bytes))
+        → calls lend skip bytes (walkAt held p) (tablesAt room p) ≡ leaves room held (recordsOnto (held .format) p (linesFrom skip bytes)) (meaningFrom room held p (linesFrom skip bytes))
 
     -- A line is refused, and the end call answers the same; or taken, and the rest of the file follows.
     goes : (rest : List ℕ) → Walks rest → (p : List Said) → Good room held p → (line : Line) (v : Judged) → judgeAt room held p line ≡ v
         → next lend rest (lineStep (walkAt held p) line (tablesAt room p))
-        ≡ leaves room held (recordsOnto p (line ∷ linesFrom (sizeOf line - 1) rest)) (meaningFrom room held p (line ∷ linesFrom (sizeOf line - 1) rest))
+        ≡ leaves room held (recordsOnto (held .format) p (line ∷ linesFrom (sizeOf line - 1) rest)) (meaningFrom room held p (line ∷ linesFrom (sizeOf line - 1) rest))
     goes rest more p g line (refusal column number) e =
         let says = notice number (length p + 1) column in
         ap (next lend rest) (line-refused p g line column number e)
-        ∙ end-refused room (held .format) says (opens-known held allowed) (refusal-numbered _ _ line column number e)
+        ∙ end-refused room (held .format) says (opens-known held allowed) (refusal-left _ _ line column number e)
         ∙ sym (ap (leaves room held _) (meaning-refuses room held p line (linesFrom (sizeOf line - 1) rest) column number e))
     goes rest more p g line (passed taken said) e =
         let here = contextAt room held p in
@@ -148,14 +158,14 @@ module _ (room : Room) (held : Opening) (allowed : mayOpen held ≡ true) where
         ap (next lend rest) (line-taken p g line taken said e)
         ∙ rw (ne-eqb taken 0 (λ z. omega (arith, is .0, some)), is .0)
         (more (sizeOf line - 1) (said ∷ p) (taken-good p g line taken said e)
-        ∙ ap (λ (q : List Said). leaves room held (recordsOnto q (linesFrom (sizeOf line - 1) rest)) (meaningFrom room held (said ∷ p) (linesFrom (sizeOf line - 1) rest))) (ap (λ (s : Said). s ∷ p) (is .1))
-        ∙ ap (λ (q : List Said). leaves room held q (meaningFrom room held (said ∷ p) (linesFrom (sizeOf line - 1) rest))) (sym (onto-cons p line (linesFrom (sizeOf line - 1) rest)))
+        ∙ ap (λ (q : List Said). leaves room held (recordsOnto (held .format) q (linesFrom (sizeOf line - 1) rest)) (meaningFrom room held (said ∷ p) (linesFrom (sizeOf line - 1) rest))) (ap (λ (s : Said). s ∷ p) (is .1))
+        ∙ ap (λ (q : List Said). leaves room held q (meaningFrom room held (said ∷ p) (linesFrom (sizeOf line - 1) rest))) (sym (onto-cons (held .format) p line (linesFrom (sizeOf line - 1) rest)))
         ∙ ap (leaves room held _) (sym (meaning-goes-on room held p line (linesFrom (sizeOf line - 1) rest) taken said e)))
 
     -- From any records that were taken, the calls leave what the rest of the file means.
     walks-on : (bytes : List ℕ) → Walks bytes
     unfolding calls
-    walks-on [] skip p g = rw (from-nil skip) (ends p g ∙ ap (λ (q : List Said). leaves room held q (meaningFrom room held p [])) (sym (onto-nil p)))
+    walks-on [] skip p g = rw (from-nil skip) (ends p g ∙ ap (λ (q : List Said). leaves room held q (meaningFrom room held p [])) (sym (onto-nil (held .format) p)))
     walks-on (b ∷ rest) (suc skip) p g = rw (from-skip skip b rest) (walks-on rest skip p g)
     walks-on (b ∷ rest) zero p g =
         ap (next lend rest) (pieces-are-whole (walkAt held p) (tablesAt room p) (lend (length (b ∷ rest))) (b ∷ rest) (lent (b ∷ rest)))
@@ -187,8 +197,8 @@ from-start room = rw (pad-none {A = ℕ} 0 (room .ids), pad-none noEmployer (roo
 
 -- Opening, line calls and one end call, whatever each is lent, answer and leave what the file means: the sentence in the manual. For an opening
 -- that is refused they answer 70 or 73 and leave everything as it was.
-pub walk-means : (lend : ℕ → ℕ) → Lending lend → (held : Opening) (file : List ℕ) (t : Tables) → walked lend held file t ≡ wholeFile held file t
-walk-means lend lending held file t = at (mayOpen held) refl where
+pub walk-means : (held : Opening) (lend : ℕ → ℕ) → Lending (held .format) lend → (file : List ℕ) (t : Tables) → walked lend held file t ≡ wholeFile held file t
+walk-means held lend lending file t = at (mayOpen held) refl where
   at : (allowed : Bool) → mayOpen held ≡ allowed → walked lend held file t ≡ wholeFile held file t
   at true e =
       rw (open-allowed held e, e, ← from-start (roomOf t)) (walks-on (roomOf t) held e lend lending file 0 [] (good-none (roomOf t) held))

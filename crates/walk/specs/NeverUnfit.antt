@@ -14,10 +14,11 @@ use Rattle.edits.specs.Formats.{mayOpen, isOfOpening}
 use Rattle.edits.specs.declared.Opening.{Opening}
 use Rattle.edits.specs.declared.Phase.{Phase}
 use Rattle.edits.specs.declared.Phase.the-variants.{BeforeA, AfterA, EOpen, AfterT, AfterF}
-use Rattle.record.specs.Judge.{Judged, refusal, passed}
-use Rattle.record.specs.Numbered.{refusal-numbered}
-use Rattle.record.specs.PlaceTables.{endTest}
-use Rattle.record.specs.declared.said.Said.{Said}
+use Rattle.shape.specs.Shape.{Judged, refusal, passed}
+use Rattle.record.specs.Formats.{shapeOf, lawfulOf}
+use Rattle.record.specs.Laws.{refusal-left}
+use Rattle.shape.specs.EndLaws.{endTest}
+use Rattle.shape.specs.declared.Said.{Said}
 use Rattle.tables.specs.Pad.{length-pad}
 use Rattle.tables.specs.Room.{Room, Tables, roomOf, zeroed}
 use Rattle.tables.specs.Tables.{noEmployer}
@@ -34,7 +35,7 @@ use Rattle.step.specs.declared.Change.the-variants.{Nothing, Clear}
 use Rattle.walk.specs.At.{walkAt, acceptedAt, tablesAt, Good}
 use Rattle.walk.specs.Calls.{refusedWith, leaves}
 use Rattle.walk.specs.CallLaws.{file-sound-at}
-use Rattle.walk.specs.GoodLaws.{good-none, still-reportable}
+use Rattle.walk.specs.GoodLaws.{good-none}
 use Rattle.walk.specs.Means.{again-line, again-end, ends-by, line-refused, line-taken, taken-good}
 use Rattle.walk.specs.StepLaws.{entries-within}
 use Rattle.walk.specs.TablesAt.{opened-at}
@@ -111,14 +112,14 @@ module _ (room : Room) (held : Opening) (allowed : mayOpen held ≡ true) (p : L
   )
 
 module _ (room : Room) (held : Opening) (allowed : mayOpen held ≡ true) (p : List Said) (g : Good room held p) where
-  left : (number : ℕ) → (1 ≤ number) × (number ≤ 65) → isLeft (held .format) number ≡ true
+  left : (number : ℕ) → shapeOf (held .format) .isLeft number ≡ true → isLeft (held .format) number ≡ true
   left number = left-number (held .format) number (opens-known held allowed)
 
   well-line : (bytes : List ℕ) → Well room held (lineStep (walkAt held p) (firstLine bytes) (tablesAt room p))
   well-line bytes = by (judgeAt room held p (firstLine bytes)) refl where
     by : (v : Judged) → judgeAt room held p (firstLine bytes) ≡ v → Well room held (lineStep (walkAt held p) (firstLine bytes) (tablesAt room p))
     by (refusal column number) e =
-        well-refused room held (notice number (length p + 1) column) _ (left number (refusal-numbered _ _ (firstLine bytes) column number e))
+        well-refused room held (notice number (length p + 1) column) _ (left number (refusal-left _ _ (firstLine bytes) column number e))
         (line-refused room held allowed p g (firstLine bytes) column number e)
     by (passed taken said) e =
         let same = line-taken room held allowed p g (firstLine bytes) taken said e in
@@ -139,10 +140,10 @@ module _ (room : Room) (held : Opening) (allowed : mayOpen held ≡ true) (p : L
   )
 
   well-phase : (phase : Phase) → phaseIn p ≡ phase → Well room held (leaves room held p (outcomeBy (foundOn (length p + 1) (endTest phase)) p))
-  well-phase BeforeA e = well-refused room held (notice 5 (length p + 1) 1) _ (left 5 (omega arith, omega arith)) refl
-  well-phase AfterA e = well-refused room held (notice 6 (length p + 1) 1) _ (left 6 (omega arith, omega arith)) refl
-  well-phase EOpen e = well-refused room held (notice 7 (length p + 1) 1) _ (left 7 (omega arith, omega arith)) refl
-  well-phase AfterT e = well-refused room held (notice 8 (length p + 1) 1) _ (left 8 (omega arith, omega arith)) refl
+  well-phase BeforeA e = well-refused room held (notice 5 (length p + 1) 1) _ (left 5 (lawfulOf (held .format) .ends-left .0)) refl
+  well-phase AfterA e = well-refused room held (notice 6 (length p + 1) 1) _ (left 6 (lawfulOf (held .format) .ends-left .1)) refl
+  well-phase EOpen e = well-refused room held (notice 7 (length p + 1) 1) _ (left 7 (lawfulOf (held .format) .ends-left .2)) refl
+  well-phase AfterT e = well-refused room held (notice 8 (length p + 1) 1) _ (left 8 (lawfulOf (held .format) .ends-left .3)) refl
   well-phase AfterF e = well-accepted e
 
   well-end : Well room held (endStep (walkAt held p) (tablesAt room p))
@@ -158,7 +159,8 @@ module _ (room : Room) (held : Opening) (allowed : mayOpen held ≡ true) (p : L
   accepted-fit : unfit room (acceptedAt held p) ≡ false
   accepted-fit =
       sound-fit room (acceptedAt held p) (file-sound-at room held p g allowed) (λ o. absurd (false≢true o))
-      (rw (allowed, still-reportable held p AfterF last refl (g .quarter)))
+      (rw last at (g .more))
+      (rw (allowed, rw last at (g .quarter)))
 
   abbrev ended : Tables → Out
   ended t = record { says = notice 71 0 0; taken = 0; walk = acceptedAt held p; left = t }

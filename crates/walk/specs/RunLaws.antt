@@ -11,6 +11,7 @@ use lib.Seq.{drop-drop}
 use borrow.Author.Tests.{eqb-true, eqb-false}
 use Rattle.laws.specs.Choice.{if_then_else_}
 use Rattle.lines.specs.Lines.{firstLine}
+use Rattle.record.specs.Formats.{shapeOf}
 use Rattle.tables.specs.Room.{Tables, tables}
 use Rattle.tables.specs.declared.Employer.{Employer}
 use Rattle.state.specs.Walks.{Walk}
@@ -31,7 +32,7 @@ both-left a r s xs zs ys list walk t same line run =
 module _ (walk : Walk) (s : List ℕ) (t : Tables) where
   -- What holds after the line holds after the run, if each line more keeps it.
   pub lines-carry : (P : ℕ → Walk → Tables → Type 0)
-      → ((at : ℕ) (walk : Walk) (t : Tables) (next : Out) → 292 ≤ length (drop at s) → next ≡ lineStep walk (firstLine (drop at s)) t → (next .taken ≡ 0 → ⊥) → P at walk t → P (at + next .taken) (next .walk) (next .left))
+      → ((at : ℕ) (walk : Walk) (t : Tables) (next : Out) → shapeOf (walk .held .format) .length + 2 ≤ length (drop at s) → next ≡ lineStep walk (firstLine (drop at s)) t → (next .taken ≡ 0 → ⊥) → P at walk t → P (at + next .taken) (next .walk) (next .left))
       → (lineStep walk (firstLine s) t .taken ≡ 0 → ⊥) → P (lineStep walk (firstLine s) t .taken) (lineStep walk (firstLine s) t .walk) (lineStep walk (firstLine s) t .left)
       → P (linesStep walk s t .taken) (linesStep walk s t .walk) (linesStep walk s t .left)
   lines-carry P more some now = let o = lineStep walk (firstLine s) t in behind-carries s (o .left .list) (leftIn o) P more some now
@@ -61,7 +62,7 @@ module _ (file : List ℕ) (at : ℕ) (walk : Walk) (t : Tables) (o : Out) (with
   abbrev Carried : ℕ → Walk → Tables → Type 0
   Carried taken w u = (calls all 0 (drop at file) walk t ≡ calls all 0 (drop (at + taken) file) w u) × (at + taken ≤ length file)
 
-  one-more : (taken : ℕ) (w : Walk) (u : Tables) (next : Out) → 292 ≤ length (drop taken (drop at file)) → next ≡ lineStep w (firstLine (drop taken (drop at file))) u → (next .taken ≡ 0 → ⊥) → Carried taken w u
+  one-more : (taken : ℕ) (w : Walk) (u : Tables) (next : Out) → shapeOf (w .held .format) .length + 2 ≤ length (drop taken (drop at file)) → next ≡ lineStep w (firstLine (drop taken (drop at file))) u → (next .taken ≡ 0 → ⊥) → Carried taken w u
       → Carried (taken + next .taken) (next .walk) (next .left)
   one-more taken w u next long is some (same, inside) =
       let here : drop taken (drop at file) ≡ drop (at + taken) file = drop-drop taken at file in

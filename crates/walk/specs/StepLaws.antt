@@ -13,20 +13,21 @@ use Rattle.laws.specs.Choice.{if_then_else_}
 use Rattle.edits.specs.declared.Opening.{Opening}
 use Rattle.edits.specs.declared.Phase.{Phase}
 use Rattle.edits.specs.declared.Phase.the-variants.{BeforeA, AfterA, EOpen, AfterT}
-use Rattle.record.specs.Passed.{Fits}
-use Rattle.record.specs.declared.said.EmployeeOn.{EmployeeOn}
-use Rattle.record.specs.declared.said.EmployerOn.{EmployerOn}
-use Rattle.record.specs.declared.said.Said.{Said}
-use Rattle.record.specs.declared.said.Said.the-variants.{OfA, OfE, OfS, OfT, OfF, OfNone}
+use Rattle.shape.specs.Fits.{Fits}
+use Rattle.shape.specs.declared.EmployeeOn.{EmployeeOn}
+use Rattle.shape.specs.declared.EmployerOn.{EmployerOn}
+use Rattle.shape.specs.declared.Said.{Said}
+use Rattle.shape.specs.declared.Said.the-variants.{OfA, OfE, OfS, OfT, OfF, OfNone}
 use Rattle.tables.specs.Last.{closed-padded}
 use Rattle.tables.specs.Pad.{pad, pad-none, length-pad, take-pad, set-pad, wiped-pad}
 use Rattle.tables.specs.Room.{Room, Tables, tables, roomOf, entriesUsed}
 use Rattle.tables.specs.Tables.{noEmployer, feinsOf}
 use Rattle.tables.specs.declared.Employer.{Employer}
-use Rattle.meaning.specs.Before.{phaseIn, openIn, idsWith, idsUnder, totalsIn, feinsIn, entryAtE, entriesIn}
+use Rattle.shape.specs.After.{idsWith, usedAfter}
+use Rattle.meaning.specs.Before.{phaseIn, openIn, idsUnder, totalsIn, feinsIn, entryAtE, entriesIn}
 use Rattle.meaning.specs.BeforeLaws.{entries-many, entries-feins}
-use Rattle.meaning.specs.Meaning.{contextAt, onEarlierE, underThisE}
-use Rattle.step.specs.Moves.{usedAfter, walkAfter, changeBy}
+use Rattle.meaning.specs.Meaning.{contextAt}
+use Rattle.step.specs.Moves.{walkAfter, changeBy}
 use Rattle.step.specs.Steps.{written}
 use Rattle.step.specs.declared.Change.the-variants.{Nothing, Adds}
 use Rattle.walk.specs.At.{walkAt, tablesAt, opens, Good}
@@ -53,7 +54,7 @@ one-used : (ids : List ℕ) (id : ℕ) (none : Bool) → (if none then length id
 one-used ids id true = refl
 one-used ids id false = sym (length-snoc ids id)
 
-used-after : (said : Said) (ids : List ℕ) → usedAfter said (length ids) ≡ length (idsWith said ids)
+pub used-after : (said : Said) (ids : List ℕ) → usedAfter said (length ids) ≡ length (idsWith said ids)
 used-after (OfA quarter) ids = refl
 used-after (OfE e) ids = refl
 used-after (OfS s) ids = one-used ids (s .id) (eqb (s .id) 0)
@@ -89,23 +90,23 @@ module _ (room : Room) (held : Opening) (p : List Said) (g : Good room held p) w
   no-ids : (ids : List ℕ) (entries : List Employer) → ids ≡ [] → filled ids entries ≡ filled [] entries
   no-ids ids entries none = rw none
 
-  wrote-e : (e : EmployerOn) → Fits (contextAt room held p) (onEarlierE p) (underThisE p) (OfE e)
+  wrote-e : (e : EmployerOn) → Fits (contextAt room held p) (OfE e)
       → written (changeBy (OfE e) (walkAt held p)) (tablesAt room p) ≡ tablesAt room (OfE e ∷ p)
   wrote-e e fits =
       let less : totalsIn p .employers < entriesUsed room = leb-false (entriesUsed room) (totalsIn p .employers) (fits .1) in
       rw (set-pad noEmployer (room .list) (entriesIn p) (totalsIn p .employers) (entryAtE e) (entries-many p) (omega (arith, less)))
       (no-ids (idsUnder p) (entriesIn (OfE e ∷ p)) (ids-before-e p (fits .0)))
 
-  wrote-s : (s : EmployeeOn) → Fits (contextAt room held p) (onEarlierE p) (underThisE p) (OfS s)
+  wrote-s : (s : EmployeeOn) → Fits (contextAt room held p) (OfS s)
       → written (changeBy (OfS s) (walkAt held p)) (tablesAt room p) ≡ tablesAt room (OfS s ∷ p)
   wrote-s s fits = at (eqb (s .id) 0) refl (fits .3) where
-    at : (none : Bool) → eqb (s .id) 0 ≡ none → (s .id ≡ 0) ⊎ ((leb (room .ids) (length (idsUnder p)) ≡ false) × (underThisE p (s .id) ≡ false))
+    at : (none : Bool) → eqb (s .id) 0 ≡ none → (s .id ≡ 0) ⊎ (leb (room .ids) (length (idsUnder p)) ≡ false)
         → written (if none then Nothing else Adds (length (idsUnder p)) (s .id)) (tablesAt room p)
         ≡ filled (if none then idsUnder p else idsUnder p ++ (s .id ∷ [])) (entriesIn (OfS s ∷ p))
     at true e new = refl
     at false e (inl zero-id) = absurd (false≢true (sym e ∙ eq-eqb (s .id) 0 zero-id))
     at false e (inr free) =
-        let less : length (idsUnder p) < room .ids = leb-false (room .ids) (length (idsUnder p)) (free .0) in
+        let less : length (idsUnder p) < room .ids = leb-false (room .ids) (length (idsUnder p)) free in
         rw (set-pad 0 (room .ids) (idsUnder p) (length (idsUnder p)) (s .id) refl less)
 
   wrote-t : phaseIn p ≡ EOpen → written (changeBy OfT (walkAt held p)) (tablesAt room p) ≡ tablesAt room (OfT ∷ p)
@@ -119,9 +120,9 @@ module _ (room : Room) (held : Opening) (p : List Said) (g : Good room held p) w
       )
 
   -- What a record that passes writes is what the records with it leave.
-  pub wrote : (said : Said) → Fits (contextAt room held p) (onEarlierE p) (underThisE p) said
+  pub wrote : (said : Said) → Fits (contextAt room held p) said
       → written (changeBy said (walkAt held p)) (tablesAt room p) ≡ tablesAt room (said ∷ p)
-  wrote (OfA quarter) fits = no-ids (idsUnder p) (entriesIn p) (ids-none p BeforeA (fits .0) refl)
+  wrote (OfA quarter) fits = no-ids (idsUnder p) (entriesIn p) (ids-none p BeforeA fits refl)
   wrote (OfE e) fits = wrote-e e fits
   wrote (OfS s) fits = wrote-s s fits
   wrote OfT fits = wrote-t fits

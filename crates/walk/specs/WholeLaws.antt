@@ -17,9 +17,11 @@ use Rattle.lines.specs.Laws.{size-within}
 use Rattle.lines.specs.Lines.{firstLine}
 use Rattle.edits.specs.declared.Context.{Context}
 use Rattle.edits.specs.declared.Opening.{Opening}
-use Rattle.record.specs.Among.{passed-size}
-use Rattle.record.specs.Judge.{Judged, refusal, passed, seenOn, judgeAmong}
-use Rattle.record.specs.declared.said.Said.{Said}
+use Rattle.edits.specs.declared.format.Format.{Format}
+use Rattle.record.specs.Laws.{passed-size}
+use Rattle.shape.specs.Shape.{Judged, refusal, passed}
+use Rattle.record.specs.Judge.{seenOn, judgeAmong}
+use Rattle.shape.specs.declared.Said.{Said}
 use Rattle.tables.specs.Room.{Room, Tables, roomOf}
 use Rattle.state.specs.Walks.{Standing, reading, accepted, refused, Walk}
 use Rattle.step.specs.MoveLaws.{line-cases}
@@ -32,11 +34,11 @@ use Rattle.walk.specs.Means.{next, walk-means}
 abbrev pub all : ℕ → ℕ
 all remain = remain
 
-all-lending : Lending all
-all-lending remain = inr (le-refl remain)
+all-lending : (format : Format) → Lending format all
+all-lending format remain = inr (le-refl remain)
 
 pub whole-means : (held : Opening) (file : List ℕ) (t : Tables) → calls all 0 file (openStep held t .walk) (openStep held t .left) ≡ wholeFile held file t
-whole-means held file t = walk-means all all-lending held file t
+whole-means held file t = walk-means held all (all-lending (held .format)) file t
 
 -- ---- from where the last call ended
 skipped : (skip : ℕ) (s : List ℕ) (walk : Walk) (t : Tables) → calls all skip s walk t ≡ calls all 0 (drop skip s) walk t
@@ -86,7 +88,7 @@ module _ (room : Room) (earlier under : ℕ → Bool) (walk : Walk) (s : List �
       let fits = size-within s in
       omega arith
 
-  standing-within : (standing : Standing) → byStanding room (seenOn earlier under (capitals (firstLine s .text))) (firstLine s) walk standing .taken ≤ length s
+  standing-within : (standing : Standing) → byStanding room (seenOn (walk .held .format) earlier under (capitals (firstLine s .text))) (firstLine s) walk standing .taken ≤ length s
   standing-within (reading phase) =
       verdict-within walk (judgeAmong (contextOf room walk phase) earlier under (firstLine s)) (length s) (line-within (contextOf room walk phase))
   standing-within accepted = omega arith

@@ -1,6 +1,5 @@
 // The walk over a wage file: opening, one line, the end; and a whole file in one slice.
 use edits::Opening;
-use record::said;
 use state::State;
 use step::Answer;
 use step::Change;
@@ -12,15 +11,12 @@ use tables::ids;
 use tables::list;
 ghost use Prim.Native.Nat.{_+_, _≤_};
 ghost use mathlib.Core.Path.{_≡_};
-ghost use lib.ListN.{length, take, drop};
-ghost use Rattle.chars.specs.Characters.{capitals};
+ghost use lib.ListN.{length, drop};
 ghost use Rattle.lines.specs.Lines.{firstLine};
-ghost use Rattle.record.specs.Judge.{kindOn, feinOn, idOn};
 ghost use Rattle.tables.specs.Room.{tables as tablesOf};
-ghost use Rattle.tables.specs.Tables.{isAmong};
 ghost use Rattle.state.specs.Walks.{walkOf};
 ghost use Rattle.step.specs.Moves.{takenIn, movedBy, lineSeen};
-ghost use Rattle.step.specs.Questions.{entriesAsked, idsAsked};
+ghost use Rattle.step.specs.Questions.{feinAskedBy, idAskedBy, lookedAt, idFound};
 ghost use Rattle.step.specs.Steps.{idsAfter, listAfter, outOf, openStep, lineStep, endStep};
 ghost use Rattle.walk.specs.Writes.{noWrites, writesOf};
 ghost use Rattle.walk.specs.Calls.{wholeFile};
@@ -131,25 +127,33 @@ struct Asked {
     fein: u64,
 }
 
+// What the line in front of the bytes asks.
+fn asked_by(st: State, bytes: &[u8]) -> Asked
+    ensures { λ r. ⌜ r ≡ record { entries = lookedAt (feinAskedBy (st .held .format) (now (bytes .entry))) (st .all .employers); fein = feinAskedBy (st .held .format) (now (bytes .entry)) .number } ⌝ }
+{
+    let held = st.held;
+    let format = held.format;
+    let all = st.all;
+    let asking = record::fein_asked(format, bytes);
+    Asked {
+        entries: line::looked_at(asking, all.employers as usize),
+        fein: asking.number,
+    }
+}
+
 // What the line at a place of the bytes asks. A place past the end is the end.
 fn asked_at(st: State, bytes: &[u8], at: usize) -> Asked
-    ensures { λ r. ⌜ r ≡ record { entries = entriesAsked (kindOn (capitals (drop at (now (bytes .entry))))) (st .all .employers); fein = feinOn (capitals (drop at (now (bytes .entry)))) } ⌝ }
+    ensures { λ r. ⌜ r ≡ record { entries = lookedAt (feinAskedBy (st .held .format) (drop at (now (bytes .entry)))) (st .all .employers); fein = feinAskedBy (st .held .format) (drop at (now (bytes .entry))) .number } ⌝ }
 {
     if at < bytes.len() {
-        return Asked {
-            entries: line::entries_asked(st, &bytes[at..]),
-            fein: said::fein_on(&bytes[at..]),
-        };
+        return asked_by(st, &bytes[at..]);
     }
-    Asked {
-        entries: line::entries_asked(st, &[]),
-        fein: said::fein_on(&[]),
-    }
+    asked_by(st, &[])
 }
 
 // What the line at a place of the bytes answers and changes. A place past the end is the end.
 fn move_at(st: State, bytes: &[u8], at: usize, ids: &[u32], list: usize, repeated: bool) -> Move
-    ensures { λ r. ⌜ movedBy r ≡ lineSeen (record { ids = length (now (ids .entry)); list = list }) (record { fein = repeated; id = isAmong (idOn (capitals (drop at (now (bytes .entry))))) (take (idsAsked (kindOn (capitals (drop at (now (bytes .entry))))) (st .used)) (now (ids .entry))) }) (walkOf st) (firstLine (drop at (now (bytes .entry)))) ⌝ }
+    ensures { λ r. ⌜ movedBy r ≡ lineSeen (record { ids = length (now (ids .entry)); list = list }) (record { fein = repeated; id = idFound (idAskedBy (st .held .format) (drop at (now (bytes .entry)))) (st .used) (now (ids .entry)) }) (walkOf st) (firstLine (drop at (now (bytes .entry)))) ⌝ }
 {
     if at < bytes.len() {
         return line::line_move(st, &bytes[at..], ids, list, repeated);

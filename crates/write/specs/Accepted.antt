@@ -10,9 +10,10 @@ use Rattle.lines.specs.Lines.{Line}
 use Rattle.edits.specs.declared.Phase.{Phase}
 use Rattle.edits.specs.declared.Phase.the-variants.{BeforeA, AfterA, EOpen, AfterT, AfterF}
 use Rattle.edits.specs.declared.Seen.{Seen}
-use Rattle.record.specs.Among.{judged-size}
-use Rattle.record.specs.Judge.{Judged, refusal, passed, judge, recordOn, seenOn}
-use Rattle.record.specs.declared.said.Said.{Said}
+use Rattle.shape.specs.Shape.{Judged, refusal, passed}
+use Rattle.shape.specs.declared.Said.{Said}
+use Rattle.record.specs.Judge.{judge, recordOn, seenOn}
+use Rattle.record.specs.Laws.{judged-size}
 use Rattle.tables.specs.Room.{Tables, roomOf}
 use Rattle.state.specs.Unfit.{isOpen, standingUnfit, unfit}
 use Rattle.state.specs.UnfitLaws.{fit-standing, left-not-0}
@@ -45,14 +46,14 @@ after-T-stands (refused says) e = absurd (false≢true e)
 module _ (walk : Walk) (t : Tables) (line : Line) where
   -- What is asked of the tables for the line.
   abbrev pub asked : Seen
-  asked = seenOn (listedFein walk t) (listedId walk t) (capitals (line .text))
+  asked = seenOn (walk .held .format) (listedFein walk t) (listedId walk t) (capitals (line .text))
 
   -- The walk reads, and its line passes.
   pub record Passing : Type 0 where
     pub phase : Phase
     pub stands : walk .standing ≡ reading phase
     pub taken : ℕ
-    pub passes : judge (contextOf (roomOf t) walk phase) asked line ≡ passed taken (recordOn line)
+    pub passes : judge (contextOf (roomOf t) walk phase) asked line ≡ passed taken (recordOn (walk .held .format) line)
 
 module _ (walk : Walk) (t : Tables) (fit : unfit (roomOf t) walk ≡ false) (line : Line) where
   -- Where the line passes, the call is answered by "accepted",

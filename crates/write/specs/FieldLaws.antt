@@ -20,11 +20,12 @@ use Rattle.edits.specs.EditLaws.{AllFine}
 use Rattle.edits.specs.Lists.{fieldEdits}
 use Rattle.edits.specs.declared.Context.{Context}
 use Rattle.edits.specs.declared.Seen.{Seen}
-use Rattle.record.specs.Judge.{kindOn, rowsFor, around}
-use Rattle.record.specs.Rules.{rulesFor}
-use Rattle.record.specs.Sums.{edits-of-T, edits-of-F, letter-of-T, letter-of-F}
-use Rattle.record.specs.declared.kind.Kind.{Kind}
-use Rattle.record.specs.declared.kind.Kind.the-variants.{Total, Final}
+use Rattle.pfml.specs.Edits.{rowsFor, around, rulesFor}
+use Rattle.pfml.specs.Kinds.{kindOn}
+use Rattle.pfml.specs.Letters.{letter-of}
+use Rattle.pfml.specs.Sums.{edits-of-T, edits-of-F}
+use Rattle.pfml.specs.declared.kind.Kind.{Kind}
+use Rattle.pfml.specs.declared.kind.Kind.the-variants.{Total, Final}
 use Rattle.write.specs.PartLaws.{Holds, AllHold, plain-at}
 use Rattle.write.specs.Records.{text, number, blank, partsOfT, partsOfF}
 use Rattle.write.specs.Writing.{noneToTotal}
@@ -90,7 +91,7 @@ module _ (here : Context) (seen : Seen) (line : List ℕ) where
   unfolding bytes
   fine-total named fields =
       let (digits, (count, (some, (code, (digits′, (fein, (space, (digits″, (wages, (rest, end)))))))))) = rw (edits-of-T (around here seen Total) line) at fields in
-      (letter-holds line 84 (letter-of-T (getD line 0 0) named)
+      (letter-holds line 84 (letter-of (getD line 0 0) Total (omega arith, omega arith) named)
       & fine-number line 2 8 (here .open .count) 55 (omega arith) (omega arith) digits count
       & fine-code line 9 code
       & fine-number line 13 21 (here .open .fein) 46 (omega arith) (omega arith) digits′ fein
@@ -116,7 +117,7 @@ module _ (here : Context) (seen : Seen) (line : List ℕ) where
   unfolding bytes
   fine-final named fields =
       let (digits, (count, (digits′, (employers, (code, (space, (digits″, (wages, (rest, end))))))))) = rw (edits-of-F (around here seen Final) line) at fields in
-      letter-holds line 70 (letter-of-F (getD line 0 0) named)
+      letter-holds line 70 (letter-of (getD line 0 0) Final (omega arith, omega arith) named)
       & fine-number line 2 11 (here .all .count) 58 (omega arith) (omega arith) digits count
       & fine-number line 12 21 (here .all .employers) 59 (omega arith) (omega arith) digits′ employers
       & fine-code line 22 code

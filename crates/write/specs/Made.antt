@@ -1,4 +1,4 @@
--- A record of parts, with an end and any bytes behind it, as the line that a call reads; and the walk accepts it where no edit of its fields is broken.
+-- A record of parts, with an end and any bytes behind it, as the line that a call reads; and a walk of PFML accepts it where no edit of its fields is broken.
 use Prim.Native.Nat.{ℕ, _<_}
 use mathlib.Core.Bool.{true, false}
 use mathlib.Core.List.{List, _++_}
@@ -20,11 +20,13 @@ use Rattle.edits.specs.EditLaws.{AllFine}
 use Rattle.edits.specs.Lists.{fieldEdits}
 use Rattle.edits.specs.declared.Phase.{Phase}
 use Rattle.edits.specs.declared.Seen.{Seen}
-use Rattle.record.specs.Judge.{kindOn, rowsFor, around, placedEdits, saidBy}
-use Rattle.record.specs.Kinds.{isKnown}
-use Rattle.record.specs.Rules.{rulesFor}
-use Rattle.record.specs.Sums.{passes}
-use Rattle.record.specs.declared.kind.Kind.{Kind}
+use Rattle.edits.specs.declared.format.Format.the-variants.{Pfml}
+use Rattle.pfml.specs.Edits.{rowsFor, around, placedEdits, rulesFor}
+use Rattle.pfml.specs.Kinds.{kindOn, isKnown}
+use Rattle.pfml.specs.Says.{saidBy}
+use Rattle.pfml.specs.Sums.{passes}
+use Rattle.pfml.specs.declared.kind.Kind.{Kind}
+use Rattle.record.specs.Laws.{judge-pfml}
 use Rattle.tables.specs.Room.{Tables, roomOf}
 use Rattle.state.specs.Unfit.{unfit}
 use Rattle.state.specs.Walks.{reading, Walk}
@@ -56,7 +58,7 @@ module _ (parts : List Part) (tile : T (tiles 0 parts)) (fits : AllFit parts) wh
       rw (← long) (made-cut end rest (recordOf parts) (λ k h. omega (arith, plain k h)))
 
 -- ---- the walk accepts it
-module _ (walk : Walk) (t : Tables) (fit : unfit (roomOf t) walk ≡ false) where
+module _ (walk : Walk) (t : Tables) (fit : unfit (roomOf t) walk ≡ false) (pfml : walk .held .format ≡ Pfml) where
   -- A record of parts that no edit of its fields refuses, in its place.
   pub made-accepted : (phase : Phase) → walk .standing ≡ reading phase → (parts : List Part) → T (tiles 0 parts) → AllFit parts
       → (kind : Kind) → isKnown kind ≡ true → kindOn (recordOf parts) ≡ kind → firstBroken (placedEdits (contextOf (roomOf t) walk phase) kind) ≡ fine
@@ -65,7 +67,9 @@ module _ (walk : Walk) (t : Tables) (fit : unfit (roomOf t) walk ≡ false) wher
       → lineStep walk (made parts end rest) t ≡ carried (goesOn walk (sizeOf (made parts end rest)) (saidBy kind (recordOf parts))) t
   made-accepted phase stands parts tile fits kind known named place fields end rest =
       let line = made parts end rest in
+      let here = contextOf (roomOf t) walk phase in
       let seen = asked walk t line in
       passing-accepted walk t fit line phase stands (sizeOf line) (saidBy kind (recordOf parts))
-      (passes (contextOf (roomOf t) walk phase) seen line (recordOf parts) (made-read parts tile fits end rest) kind named (sizeOf line)
+      (judge-pfml here seen line pfml
+      ∙ passes here seen line (recordOf parts) (made-read parts tile fits end rest) kind named (sizeOf line)
       (made-taken parts tile fits end rest) (made-permitted parts tile fits) known place (fields seen))

@@ -1,4 +1,4 @@
--- written-accepted and written-only: "the record that the walk accepts next, in capitals; any other accepted one differs only in letter case".
+-- written-accepted and written-only, of PFML: "the record that the walk accepts next, in capitals; any other accepted one differs only in letter case".
 use Prim.Native.Nat.{ℕ, _^_}
 use mathlib.Core.Bool.{Bool, true, false}
 use mathlib.Core.List.{List, _++_}
@@ -7,6 +7,7 @@ use native.Mathlib.Omega.{arith}
 use lib.Dec.{eqb, leb}
 use lib.ListN.{length}
 use borrow.Author.Tests.{leb-false, lt-leb, eq-eqb}
+use Rattle.laws.specs.Choice.{both-hold}
 use Rattle.laws.specs.Text.{bytes}
 use Rattle.reason.specs.Numbers.{Notice, notice}
 use Rattle.lines.specs.Ends.{LineEnd, endBytes}
@@ -15,18 +16,24 @@ use Rattle.chars.specs.Characters.{capitals}
 use Rattle.chars.specs.CharacterLaws.{capitals-length}
 use Rattle.number.specs.NumberLaws.{number-below}
 use Rattle.edits.specs.EditLaws.{AllFine}
+use Rattle.edits.specs.FormatLaws.{pfml-is}
+use Rattle.edits.specs.Formats.{isPfml}
 use Rattle.edits.specs.Lists.{fieldEdits}
 use Rattle.edits.specs.declared.Context.{Context}
 use Rattle.edits.specs.declared.Phase.the-variants.{EOpen, AfterT}
 use Rattle.edits.specs.declared.Seen.{Seen}
-use Rattle.record.specs.Judge.{rowsFor, around, passed, recordOn, judge}
-use Rattle.record.specs.Kinds.{kindOf}
-use Rattle.record.specs.Passed.{seen-fits}
-use Rattle.record.specs.Rules.{rulesFor}
-use Rattle.record.specs.Sums.{kind-of-T, kind-of-F, kindSaid, kind-said, place-of-T, place-of-F, passed-fields}
-use Rattle.record.specs.declared.kind.Kind.the-variants.{Total, Final}
-use Rattle.record.specs.declared.said.Said.{Said}
-use Rattle.record.specs.declared.said.Said.the-variants.{OfT, OfF}
+use Rattle.edits.specs.declared.format.Format.{Format}
+use Rattle.edits.specs.declared.format.Format.the-variants.{Pfml}
+use Rattle.shape.specs.Shape.{passed}
+use Rattle.shape.specs.declared.Said.{Said}
+use Rattle.shape.specs.declared.Said.the-variants.{OfT, OfF}
+use Rattle.pfml.specs.Edits.{rowsFor, around, rulesFor}
+use Rattle.pfml.specs.Kinds.{kindOf, kindOn}
+use Rattle.pfml.specs.Letters.{kind-of-T, kind-of-F, kindIn, kind-said}
+use Rattle.pfml.specs.Sums.{place-of-T, place-of-F, passed-fields}
+use Rattle.pfml.specs.declared.kind.Kind.the-variants.{Total, Final}
+use Rattle.record.specs.Judge.{recordOn, judge}
+use Rattle.record.specs.Laws.{judged-fits, judge-pfml}
 use Rattle.tables.specs.Room.{Tables, roomOf}
 use Rattle.state.specs.Unfit.{isOpen, unfit}
 use Rattle.state.specs.UnfitLaws.{fit-file, fit-open, fit-without}
@@ -38,7 +45,7 @@ use Rattle.write.specs.FieldLaws.{total-fine, fine-total, final-fine, fi
 use Rattle.write.specs.Made.{made-accepted}
 use Rattle.write.specs.PartLaws.{AllFit, record-holds, record-only}
 use Rattle.write.specs.Records.{recordOf, partsOfT, partsOfF, totalRecord, finalRecord}
-use Rattle.write.specs.Writing.{Writing, noTables, isAfterT, noneToTotal, refusalOf, totalWriting, finalWriting}
+use Rattle.write.specs.Writing.{Writing, noTables, isAfterT, totalNext, finalNext, noneToTotal, refusalOf, totalWriting, finalWriting}
 use Rattle.write.specs.WritingLaws.{not-refused, free-written, written-is}
 
 -- The next line call accepts this text, with each of the three line ends and any bytes behind, and the walk is then the one behind such a record.
@@ -55,15 +62,16 @@ module _ (walk : Walk) (t : Tables) (fit : unfit (roomOf t) walk ≡ false) (out
   written-accepted-t says end rest =
       let this = walk .open in
       let zero = ap (λ (n : Notice). n .number) says in
-      let free = not-refused (unfit (noTables walk) walk) (eqb (length out) 290) (isOpen (walk .standing)) (noneToTotal this) (leb (10 ^ 14) (this .sum)) zero in
+      let free = not-refused (unfit (noTables walk) walk) (eqb (length out) 290) (totalNext walk) (noneToTotal this) (leb (10 ^ 14) (this .sum)) zero in
+      let next = both-hold (isPfml (walk .held .format)) (isOpen (walk .standing)) (free .in-place) in
       let many = fit-file (roomOf t) walk fit .many in
-      let under = fit-open (roomOf t) walk fit (free .in-place) in
+      let under = fit-open (roomOf t) walk fit (next .1) in
       let fits : AllFit (partsOfT this) =
       (tt, (omega (arith, under .under), (tt, (omega (arith, under .fein), (tt, (leb-false (10 ^ 14) (this .sum) (free .small), (tt, tt))))))) in
       let holds = record-holds (partsOfT this) tt fits in
       let here = contextOf (roomOf t) walk EOpen in
       let step =
-      made-accepted walk t fit EOpen (open-stands (walk .standing) (free .in-place)) (partsOfT this) tt fits Total refl
+      made-accepted walk t fit (pfml-is (walk .held .format) (next .0)) EOpen (open-stands (walk .standing) (next .1)) (partsOfT this) tt fits Total refl
       (ap kindOf (holds .0 0 (omega arith)) ∙ kind-of-T) (place-of-T here refl)
       (λ seen. total-fine here seen (recordOf (partsOfT this)) holds (free .some)) end rest in
       (ap (λ (o : Out). o .says) step, ap (λ (o : Out). o .walk) step)
@@ -73,14 +81,15 @@ module _ (walk : Walk) (t : Tables) (fit : unfit (roomOf t) walk ≡ false) (out
   written-accepted-f says end rest =
       let all = walk .all in
       let zero = ap (λ (n : Notice). n .number) says in
-      let free = not-refused (unfit (noTables walk) walk) (eqb (length out) 290) (isAfterT (walk .standing)) false (leb (10 ^ 15) (all .sum)) zero in
+      let free = not-refused (unfit (noTables walk) walk) (eqb (length out) 290) (finalNext walk) false (leb (10 ^ 15) (all .sum)) zero in
+      let next = both-hold (isPfml (walk .held .format)) (isAfterT (walk .standing)) (free .in-place) in
       let file = fit-file (roomOf t) walk fit in
       let fits : AllFit (partsOfF all) =
       (tt, (omega (arith, file .many), (omega (arith, file .employers), (tt, (tt, (leb-false (10 ^ 15) (all .sum) (free .small), (tt, tt))))))) in
       let holds = record-holds (partsOfF all) tt fits in
       let here = contextOf (roomOf t) walk AfterT in
       let step =
-      made-accepted walk t fit AfterT (after-T-stands (walk .standing) (free .in-place)) (partsOfF all) tt fits Final refl
+      made-accepted walk t fit (pfml-is (walk .held .format) (next .0)) AfterT (after-T-stands (walk .standing) (next .1)) (partsOfF all) tt fits Final refl
       (ap kindOf (holds .0 0 (omega arith)) ∙ kind-of-F) (place-of-F here refl)
       (λ seen. final-fine here seen (recordOf (partsOfF all)) holds) end rest in
       (ap (λ (o : Out). o .says) step, ap (λ (o : Out). o .walk) step)
@@ -94,7 +103,8 @@ module _ (walk : Walk) (t : Tables) (fit : unfit (roomOf t) walk ≡ false) (out
   )
 
 -- ---- no other is accepted
-module _ (walk : Walk) (t : Tables) (fit : unfit (roomOf t) walk ≡ false) (s : List ℕ) (says : lineStep walk (firstLine s) t .says ≡ allWell) where
+module _ (walk : Walk) (pfml : walk .held .format ≡ Pfml) (t : Tables) (fit : unfit (roomOf t) walk ≡ false) (s : List ℕ)
+    (says : lineStep walk (firstLine s) t .says ≡ allWell) where
   -- The accepted line in capitals, the walk that reads it, and what the line is judged by.
   abbrev text : List ℕ
   text = capitals (firstLine s .text)
@@ -108,14 +118,19 @@ module _ (walk : Walk) (t : Tables) (fit : unfit (roomOf t) walk ≡ false) (s :
   abbrev seen : Seen
   seen = asked walk t (firstLine s)
 
-  judged : (said : Said) → recordOn (firstLine s) ≡ said → judge here seen (firstLine s) ≡ passed (reads .taken) said
+  judged : (said : Said) → recordOn (walk .held .format) (firstLine s) ≡ said → judge here seen (firstLine s) ≡ passed (reads .taken) said
   judged said is = reads .passes ∙ ap (passed (reads .taken)) is
 
+  named : (said : Said) → recordOn (walk .held .format) (firstLine s) ≡ said → kindOn text ≡ kindIn said
+  named said is = kind-said text said (sym (ap (λ (format : Format). recordOn format (firstLine s)) pfml) ∙ is)
+
   -- It has 290 characters, and no edit of its fields is broken.
-  read : (said : Said) → recordOn (firstLine s) ≡ said
-      → (length text ≡ 290) × AllFine (fieldEdits (around here seen (kindSaid said)) text (rowsFor (kindSaid said)) (rulesFor (kindSaid said)))
+  read : (said : Said) → recordOn (walk .held .format) (firstLine s) ≡ said
+      → (length text ≡ 290) × AllFine (fieldEdits (around here seen (kindIn said)) text (rowsFor (kindIn said)) (rulesFor (kindIn said)))
   read said is =
-      let fields = passed-fields here seen (firstLine s) text refl (kindSaid said) (kind-said (firstLine s) said is) (reads .taken) said (judged said is) in
+      let fields =
+      passed-fields here seen (firstLine s) text refl (kindIn said) (named said is) (reads .taken) said
+      (sym (judge-pfml here seen (firstLine s) pfml) ∙ judged said is) in
       (capitals-length (firstLine s .text) ∙ fields .0, fields .1)
 
   -- No reason to refuse the writing is there.
@@ -126,36 +141,36 @@ module _ (walk : Walk) (t : Tables) (fit : unfit (roomOf t) walk ≡ false) (s :
       (free-written (unfit (noTables walk) walk) (eqb (length out) 290) next none large
       (record { fit = fit-without (roomOf t) walk fit; is-long = eq-eqb (length out) 290 long; in-place = in-place; some = some; small = small }))
 
-  pub written-only-t : recordOn (firstLine s) ≡ OfT
+  pub written-only-t : recordOn (walk .held .format) (firstLine s) ≡ OfT
       → (capitals (firstLine s .text) ≡ totalRecord (walk .open)) × ((out : List ℕ) → length out ≡ 290 → totalWriting walk out .says ≡ allWell)
   unfolding totalRecord bytes
   written-only-t is =
       let this = walk .open in
-      let held = fine-total here seen text (kind-said (firstLine s) OfT is) (read OfT is .1) in
-      let under-E = seen-fits here seen (firstLine s) (reads .taken) OfT (judged OfT is) .0 in
+      let held = fine-total here seen text (named OfT is) (read OfT is .1) in
+      let stands = reads .stands ∙ ap reading (judged-fits here seen (firstLine s) (reads .taken) OfT (judged OfT is)) in
       let below = number-below text 27 40 (this .sum) (held .0 .1 .1 .1 .1 .1 .0) in (
         record-only (partsOfT this) tt text (read OfT is .0) (held .0),
-        allowed (isOpen (walk .standing)) (noneToTotal this) (leb (10 ^ 14) (this .sum)) (ap isOpen (reads .stands ∙ ap reading under-E)) (held .1)
+        allowed (totalNext walk) (noneToTotal this) (leb (10 ^ 14) (this .sum)) (rw (ap isPfml pfml, ap isOpen stands)) (held .1)
             (lt-leb (10 ^ 14) (this .sum) below),
       )
 
-  pub written-only-f : recordOn (firstLine s) ≡ OfF
+  pub written-only-f : recordOn (walk .held .format) (firstLine s) ≡ OfF
       → (capitals (firstLine s .text) ≡ finalRecord (walk .all)) × ((out : List ℕ) → length out ≡ 290 → finalWriting walk out .says ≡ allWell)
   unfolding finalRecord bytes
   written-only-f is =
       let all = walk .all in
-      let held = fine-final here seen text (kind-said (firstLine s) OfF is) (read OfF is .1) in
-      let behind-T = seen-fits here seen (firstLine s) (reads .taken) OfF (judged OfF is) .0 in
+      let held = fine-final here seen text (named OfF is) (read OfF is .1) in
+      let stands = reads .stands ∙ ap reading (judged-fits here seen (firstLine s) (reads .taken) OfF (judged OfF is)) in
       let below = number-below text 41 55 (all .sum) (held .1 .1 .1 .1 .1 .0) in (
         record-only (partsOfF all) tt text (read OfF is .0) held,
-        allowed (isAfterT (walk .standing)) false (leb (10 ^ 15) (all .sum)) (ap isAfterT (reads .stands ∙ ap reading behind-T)) refl
+        allowed (finalNext walk) false (leb (10 ^ 15) (all .sum)) (rw (ap isPfml pfml, ap isAfterT stands)) refl
             (lt-leb (10 ^ 15) (all .sum) below),
       )
 
   -- Whatever T or F is accepted, the writing leaves its characters in the slice, in capitals.
   pub written-only : (out : List ℕ) → length out ≡ 290
-      → (recordOn (firstLine s) ≡ OfT → totalWriting walk out ≡ record { says = allWell; out = capitals (firstLine s .text) })
-      × (recordOn (firstLine s) ≡ OfF → finalWriting walk out ≡ record { says = allWell; out = capitals (firstLine s .text) })
+      → (recordOn (walk .held .format) (firstLine s) ≡ OfT → totalWriting walk out ≡ record { says = allWell; out = capitals (firstLine s .text) })
+      × (recordOn (walk .held .format) (firstLine s) ≡ OfF → finalWriting walk out ≡ record { says = allWell; out = capitals (firstLine s .text) })
   written-only out long = (
     λ is. let only = written-only-t is in written-is _ _ out (only .1 out long) ∙ ap (λ (line : List ℕ). record { says = allWell; out = line }) (sym (only .0)),
     λ is. let only = written-only-f is in written-is _ _ out (only .1 out long) ∙ ap (λ (line : List ℕ). record { says = allWell; out = line }) (sym (only .0)),

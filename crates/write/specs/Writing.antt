@@ -6,6 +6,7 @@ use lib.Dec.{eqb, leb}
 use lib.ListN.{length}
 use Rattle.laws.specs.Choice.{if_then_else_}
 use Rattle.reason.specs.Numbers.{Notice, notice, noticeOf}
+use Rattle.edits.specs.Formats.{isPfml}
 use Rattle.edits.specs.declared.Open.{Open}
 use Rattle.edits.specs.declared.Phase.the-variants.{BeforeA, AfterA, EOpen, AfterT, AfterF}
 use Rattle.tables.specs.Room.{Room}
@@ -35,6 +36,13 @@ isAfterT (reading AfterF) = false
 isAfterT accepted = false
 isAfterT (refused says) = false
 
+-- Whether T may come next, and whether F may. They are records of PFML: in a walk of another format neither may.
+abbrev pub totalNext : Walk → Bool
+totalNext walk = isPfml (walk .held .format) && isOpen (walk .standing)
+
+abbrev pub finalNext : Walk → Bool
+finalNext walk = isPfml (walk .held .format) && isAfterT (walk .standing)
+
 -- "T with no S under an E saying 1"
 abbrev pub noneToTotal : Open → Bool
 noneToTotal this = eqb (this .count) 0 && this .follow
@@ -47,7 +55,7 @@ refusalOf unfitness long next none large =
     if unfitness then 72 else
     -- "slice not 290 bytes 83"
     if not long then 83 else
-    -- "T with no E open, F not right after a T, or a refused or ended walk 80"
+    -- "T with no E open, F not right after a T, or a refused or ended walk 80", or one of another format
     if not next then 80 else
     -- "T with no S under an E saying 1 81"
     if none then 81 else
@@ -57,11 +65,11 @@ refusalOf unfitness long next none large =
 
 abbrev pub totalRefusal : Walk → ℕ → ℕ
 totalRefusal walk size =
-    refusalOf (unfit (noTables walk) walk) (eqb size 290) (isOpen (walk .standing)) (noneToTotal (walk .open)) (leb (10 ^ 14) (walk .open .sum))
+    refusalOf (unfit (noTables walk) walk) (eqb size 290) (totalNext walk) (noneToTotal (walk .open)) (leb (10 ^ 14) (walk .open .sum))
 
 abbrev pub finalRefusal : Walk → ℕ → ℕ
 finalRefusal walk size =
-    refusalOf (unfit (noTables walk) walk) (eqb size 290) (isAfterT (walk .standing)) false (leb (10 ^ 15) (walk .all .sum))
+    refusalOf (unfit (noTables walk) walk) (eqb size 290) (finalNext walk) false (leb (10 ^ 15) (walk .all .sum))
 
 -- "Given only then, slice untouched. Otherwise the record". "80 to 83 give line 0, column 0."
 abbrev pub writing : ℕ → List ℕ → List ℕ → Writing

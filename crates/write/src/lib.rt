@@ -1,7 +1,8 @@
-// The T and the F record that a walk accepts next, written into a lent slice.
+// The T and the F record of PFML that a walk accepts next, written into a lent slice.
 use edits::Open;
 use edits::Phase;
 use edits::Totals;
+use edits::format;
 use reason::Reason;
 use reason::Refusal;
 use state::Stage;
@@ -14,7 +15,7 @@ ghost use Rattle.reason.specs.Numbers.{notice, numberOf};
 ghost use Rattle.state.specs.Unfit.{unfit};
 ghost use Rattle.state.specs.Walks.{reading, walkOf, standingOf};
 ghost use Rattle.write.specs.Records.{totalRecord, finalRecord};
-ghost use Rattle.write.specs.Writing.{noTables, isAfterT, noneToTotal, refusalOf, totalRefusal, finalRefusal, totalWriting, finalWriting, noticeIn, writtenBy};
+ghost use Rattle.write.specs.Writing.{noTables, isAfterT, totalNext, finalNext, noneToTotal, refusalOf, totalRefusal, finalRefusal, totalWriting, finalWriting, noticeIn, writtenBy};
 
 // The record is written; or it is not, and the slice is as it was.
 pub enum Wrote {
@@ -64,6 +65,32 @@ fn is_after_t(stage: Stage) -> bool
     }
 }
 
+// Whether T may come next: an E of a PFML file is open.
+fn is_t_next(st: State) -> bool
+    ensures { λ r. ⌜ r ≡ totalNext (walkOf st) ⌝ }
+{
+    let held = st.held;
+    let format = held.format;
+    let stage = st.stage;
+    if format::is_pfml(format) {
+        return fitness::is_open(stage);
+    }
+    false
+}
+
+// Whether F may: a PFML file stands right after a T.
+fn is_f_next(st: State) -> bool
+    ensures { λ r. ⌜ r ≡ finalNext (walkOf st) ⌝ }
+{
+    let held = st.held;
+    let format = held.format;
+    let stage = st.stage;
+    if format::is_pfml(format) {
+        return is_after_t(stage);
+    }
+    false
+}
+
 // No S record stands under an E that says that some follow.
 fn none_to_total(e: Open) -> bool
     ensures { λ r. ⌜ r ≡ noneToTotal e ⌝ }
@@ -109,12 +136,11 @@ fn answer(unfit: bool, long: bool, next: bool, none: bool, large: bool) -> Wrote
 fn answer_t(st: State, size: usize) -> Wrote
     ensures { λ r. ⌜ noticeIn r ≡ notice (totalRefusal (walkOf st) size) 0 0 ⌝ }
 {
-    let stage = st.stage;
     let open = st.open;
     let unfit = is_unfit(st);
-    let next = fitness::is_open(stage);
+    let next = is_t_next(st);
     let none = none_to_total(open);
-    let long = size == layout::RECORD as usize;
+    let long = size == pfml_fields::RECORD as usize;
     let large = TOO_LARGE_FOR_T <= open.sum;
     answer(unfit, long, next, none, large)
 }
@@ -123,11 +149,10 @@ fn answer_t(st: State, size: usize) -> Wrote
 fn answer_f(st: State, size: usize) -> Wrote
     ensures { λ r. ⌜ noticeIn r ≡ notice (finalRefusal (walkOf st) size) 0 0 ⌝ }
 {
-    let stage = st.stage;
     let all = st.all;
     let unfit = is_unfit(st);
-    let next = is_after_t(stage);
-    let long = size == layout::RECORD as usize;
+    let next = is_f_next(st);
+    let long = size == pfml_fields::RECORD as usize;
     let large = TOO_LARGE_FOR_F <= all.sum;
     answer(unfit, long, next, false, large)
 }
@@ -138,7 +163,7 @@ fn put_t(e: Open, out: &mut [u8])
     ensures { λ _. ⌜ now (out .exit) ≡ totalRecord e ⌝ }
 {
     let letter = LETTER_T;
-    let code = record::ENTITY;
+    let code = pfml::ENTITY;
     put::blank_line(out);
     put::put_text(out, 1, &letter);
     number::write_number(out, 2, 8, e.count);
@@ -153,7 +178,7 @@ fn put_f(all: Totals, out: &mut [u8])
     ensures { λ _. ⌜ now (out .exit) ≡ finalRecord all ⌝ }
 {
     let letter = LETTER_F;
-    let code = record::ENTITY;
+    let code = pfml::ENTITY;
     put::blank_line(out);
     put::put_text(out, 1, &letter);
     number::write_number(out, 2, 11, all.count);

@@ -9,10 +9,7 @@ use Rattle.lines.specs.Lines.{firstLine}
 use Rattle.tables.specs.Room.{tables as tablesOf′}
 use Rattle.tables.specs.declared.Employer.{Employer}
 use Rattle.tables.proofs.Employer as T
-use Rattle.tables.proofs.Walk.{URA, Heap, Atoms, Given, Memory, Routine, Fun, SProp, Lft, Share, Env, Tables, Val, RefT, Room, Sq, Triple, Places, Ends, gone, given-slice}
-use Rattle.tables.proofs.Walk.{Exit, finishes, proves, locals, envOf, lets-go, var, receives, relends, Asked, held, made, asks}
-use Rattle.tables.proofs.Walk.{measures, none, some, named, w64, vint, flft, givenOf, tables, tablesOf, FmC, fmOf, runs, atRet}
-use Rattle.tables.proofs.Walk.{‵, _$_, !, by, move, look, and-then, no-more, returns, uint-makes, slice-vals, MutSlice, ShrSlice, mut-slice-tells, shr-slice-tells, plain, cited}
+use Rattle.tables.proofs.Walk.{URA, Heap, Atoms, Given, Memory, Routine, Fun, SProp, Lft, Share, Env, Tables, Val, RefT, Room, Sq, Triple, Places, Ends, gone, given-slice, Exit, finishes, proves, locals, envOf, lets-go, var, receives, relends, Asked, held, made, asks, measures, none, some, named, w64, vint, flft, givenOf, tables, tablesOf, FmC, fmOf, runs, atRet, ‵, _$_, !, by, move, look, and-then, no-more, returns, uint-makes, slice-vals, MutSlice, ShrSlice, mut-slice-tells, shr-slice-tells, plain, cited}
 use Rattle.state.specs.Walks.{Walk}
 use Rattle.state.proofs.State as S
 use Rattle.state.proofs.State.Laws as S′

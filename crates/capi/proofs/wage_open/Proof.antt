@@ -13,10 +13,7 @@ use Rattle.tables.specs.Room as room-of
 use Rattle.tables.specs.Room.{tables as tablesOf′}
 use Rattle.tables.specs.declared.Employer.{Employer}
 use Rattle.tables.proofs.Employer as T
-use Rattle.tables.proofs.Walk.{URA, Heap, Atoms, Given, Memory, Routine, Fun, SProp, Lft, Share, Env, Tables, Val, RefT, Room, Sq, Triple, Places, Ends, gone, given-slice}
-use Rattle.tables.proofs.Walk.{Exit, finishes, proves, locals, envOf, lets-go, lose, var, counts, sets, receives, relends, whens, Asked, held, made, asks}
-use Rattle.tables.proofs.Walk.{measures, none, some, named, w64, vint, flft, givenOf, tables, tablesOf, FmC, fmOf, runs, atRet}
-use Rattle.tables.proofs.Walk.{‵, _$_, !, by, move, look, lit, of-opd, bin, and-then, no-more, returns, returns-within, uint-vals, uint-tells, uint-makes, slice-vals, MutSlice, mut-slice-tells, plain, cited}
+use Rattle.tables.proofs.Walk.{URA, Heap, Atoms, Given, Memory, Routine, Fun, SProp, Lft, Share, Env, Tables, Val, RefT, Room, Sq, Triple, Places, Ends, gone, given-slice, Exit, finishes, proves, locals, envOf, lets-go, lose, var, counts, sets, receives, relends, whens, Asked, held, made, asks, measures, none, some, named, w64, vint, flft, givenOf, tables, tablesOf, FmC, fmOf, runs, atRet, ‵, _$_, !, by, move, look, lit, of-opd, bin, and-then, no-more, returns, returns-within, uint-vals, uint-tells, uint-makes, slice-vals, MutSlice, mut-slice-tells, plain, cited}
 use Rattle.step.specs.Steps.{Out, openStep}
 use Rattle.step.proofs.Answer as An
 use Rattle.step.proofs.Answer.Laws as An′

@@ -1,7 +1,7 @@
 -- `step::end_move` meets its contract.
 use mathlib.Core.Path.{sym, _∙_, ap}
 use borrow.Author.Needs.{needs}
-use Rattle.state.specs.UnfitLaws.{fit-file}
+use Rattle.state.specs.UnfitLaws.{fit-lines}
 use Rattle.state.specs.Walks.{walkOf, standingOf}
 use Rattle.step.proofs.end_move.Statement.{statement}
 use Rattle.step.proofs.end_move.Tie as tie
@@ -11,7 +11,7 @@ returns : tie.Need-returns
 returns c = c .stays .ensures ∙ sym (end-unfit _ (walkOf (c .before .before .before .args .st)) (sym (c .before .before .is-unfit .ensures) ∙ c .before .if1 .taken))
 
 end-reading-requires : tie.Need-end-reading-requires
-end-reading-requires c κs = fit-file _ (walkOf (c .before .before .before .before .before .args .st)) (sym (c .before .before .before .before .is-unfit .ensures) ∙ c .before .before .before .if1 .left) .lines-read
+end-reading-requires c κs = fit-lines _ (walkOf (c .before .before .before .before .before .args .st)) (sym (c .before .before .before .before .is-unfit .ensures) ∙ c .before .before .before .if1 .left)
 
 returns-2 : tie.Need-returns-2
 returns-2 c = c .end-reading .ensures ∙ sym (end-fit _ (walkOf (c .before .before .before .before .before .before .args .st)) _ (sym (c .before .before .before .before .before .is-unfit .ensures) ∙ c .before .before .before .before .if1 .left) (ap standingOf (c .before .before .stage .given .1)))

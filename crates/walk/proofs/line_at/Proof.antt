@@ -7,25 +7,20 @@ use lib.ListN.{length, take, drop}
 use denote.Builtin.{u8, u32}
 use denote.Enum.Laws as EL
 use denote.Struct.Laws as LL
-use Rattle.chars.specs.Characters.{capitals}
 use Rattle.lines.specs.Lines.{firstLine}
-use Rattle.record.specs.Judge.{kindOn, feinOn}
 use Rattle.tables.specs.Room.{tables as tablesOf′}
 use Rattle.tables.specs.Tables.{isAmong, feinsOf}
 use Rattle.tables.specs.declared.Employer.{Employer}
 use Rattle.tables.proofs.Employer as T
 use Rattle.tables.proofs.Called.{has-fein}
-use Rattle.tables.proofs.Walk.{URA, Heap, Atoms, Given, Memory, Routine, Fun, SProp, Lft, Share, Env, Tables, Val, RefT, Room, Is, Sq, Triple, Places, Ends, gone, given-slice}
-use Rattle.tables.proofs.Walk.{Exit, finishes, proves, locals, envOf, lets-go, lose, var, part, word, counts, sets, receives, replaces, relends, Asked, held, made, asks, named-as, twice}
-use Rattle.tables.proofs.Walk.{lends-shared, shared-back, measures, none, some, fullShare, named, w64, vbool, vint, flft, givenOf, tables, tablesOf, FmC, fmOf, runs, atRet}
-use Rattle.tables.proofs.Walk.{‵, _$_, !, by, move, look, forget, of-opd, and-then, no-more, returns, uint-vals, uint-tells, uint-makes, bool-makes, sliceVal, slice-vals, MutSlice, ShrSlice, mut-slice-tells, shr-slice-tells, plain, cited}
+use Rattle.tables.proofs.Walk.{URA, Heap, Atoms, Given, Memory, Routine, Fun, SProp, Lft, Share, Env, Tables, Val, RefT, Room, Is, Sq, Triple, Places, Ends, gone, given-slice, Exit, finishes, proves, locals, envOf, lets-go, lose, var, part, word, counts, sets, receives, replaces, relends, Asked, held, made, asks, named-as, twice, lends-shared, shared-back, measures, none, some, fullShare, named, w64, vbool, vint, flft, givenOf, tables, tablesOf, FmC, fmOf, runs, atRet, ‵, _$_, !, by, move, look, forget, of-opd, and-then, no-more, returns, uint-vals, uint-tells, uint-makes, bool-makes, sliceVal, slice-vals, MutSlice, ShrSlice, mut-slice-tells, shr-slice-tells, plain, cited}
 use Rattle.tables.proofs.list.has_fein.Symbol.{name as #has-fein, routine as has-fein-routine}
 use Rattle.tables.proofs.list.has_fein.Met as has-fein-met
 use Rattle.state.specs.Walks.{walkOf}
 use Rattle.state.specs.declared.State.{State}
 use Rattle.state.proofs.State as S
 use Rattle.state.proofs.State.Laws as S′
-use Rattle.step.specs.Questions.{entriesAsked}
+use Rattle.step.specs.Questions.{feinAskedBy, feinFound}
 use Rattle.step.specs.Steps.{outOf, written, lineStep}
 use Rattle.step.specs.declared.Move.{Move}
 use Rattle.step.proofs.Answer as An
@@ -105,7 +100,7 @@ module _ {M : Type 1} (𝓤 : URA M) (H : Heap 𝓤) (A : Atoms 𝓤) (W : Given
       (both-written m (ids .now) (list .now) (xs .0) (ys .0) wrote₁ wrote₂ ∙ said) (LL.makes An.the-type An′.the-plain 𝓤 H A (m .answer) _ (fields .1 .0)))))))
 
   -- what the line moves is decided: [κ₂'s token; the list; κ₀'s; the source; κ₁'s; ids; _18 at 6; _17 at 8; _16 at 10; _15 at 12; _14 at 14; _13 at 16; _12 at 18; _11 at 20; …; _8 at 26; _7 at 28; …; _5 at 32; _4 at 34; _3 at 36; _2 at 38; _1 at 40; _0 at 42]
-  moves : (seen : Bool) → (let s : List ℕ = capitals (drop place (src .now)) in seen ≡ isAmong (feinOn s) (feinsOf (take (entriesAsked (kindOn s) (walkOf st .all .employers)) (list .now))))
+  moves : (seen : Bool) → seen ≡ feinFound (feinAskedBy (walkOf st .held .format) (drop place (src .now))) (walkOf st .all .employers) (list .now)
       → Sq W (‵ (flft κ₂ q₂) ∷ ‵ (MutSlice (named 0) κ₂ T.the-row .own list (s₂ ∷ [])) ∷ ‵ (flft κ₀ q₀) ∷ ‵ (ShrSlice (named 0) κ₀ u8 .own src (s₀ ∷ [])) ∷ ‵ (flft κ₁ q₁) ∷ ‵ (MutSlice (named 0) κ₁ u32 .own ids (s₁ ∷ []))
       ∷ locals En (none ∷ some (state-val st) ∷ some s₀ ∷ some (vint w64 place) ∷ some s₁ ∷ some s₂ ∷ none ∷ some (vbool seen) ∷ []) []) (runs (𝓣 .C) (𝓣 .Λ) En mirs.t-5 (atRet En Post))
   moves seen found =

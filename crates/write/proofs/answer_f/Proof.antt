@@ -7,7 +7,7 @@ use Rattle.write.proofs.answer_f.Tie as tie
 returns : tie.Need-returns
 returns c =
     let next = c .before .before in
-    c .answer .ensures ∙ rw (next .before .is-unfit .ensures, next .is-after-t .ensures)
+    c .answer .ensures ∙ rw (next .before .is-unfit .ensures, next .is-f-next .ensures)
 
 pub answer-f-spec : {M : Type 1} → statement M
 answer-f-spec =

@@ -8,7 +8,7 @@ returns : tie.Need-returns
 returns c =
     let none = c .before .before in
     let next = none .before in
-    c .answer .ensures ∙ rw (next .before .is-unfit .ensures, next .is-open .ensures, none .none-to-total .ensures)
+    c .answer .ensures ∙ rw (next .before .is-unfit .ensures, next .is-t-next .ensures, none .none-to-total .ensures)
 
 pub answer-t-spec : {M : Type 1} → statement M
 answer-t-spec =

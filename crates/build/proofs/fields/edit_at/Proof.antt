@@ -3,9 +3,9 @@ use mathlib.Core.Path.{ap, _∙_}
 use borrow.Author.Needs.{needs}
 use Rattle.chars.specs.Characters.{capitals}
 use Rattle.edits.specs.Edit.{firstBroken}
-use Rattle.record.specs.Judge.{rowsFor}
-use Rattle.record.specs.Kinds.{kindOf}
-use Rattle.record.specs.Wide.{rows-wide}
+use Rattle.pfml.specs.Edits.{rowsFor}
+use Rattle.pfml.specs.Kinds.{kindOf}
+use Rattle.pfml.specs.Wide.{rows-wide}
 use Rattle.build.specs.Building.{filledEdits}
 use Rattle.build.specs.FillLaws.{field-is}
 use Rattle.build.specs.Values.{Filled}

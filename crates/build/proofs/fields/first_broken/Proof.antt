@@ -7,8 +7,8 @@ use borrow.Author.Needs.{needs}
 use Rattle.reason.specs.Numbers.{findingOf}
 use Rattle.chars.specs.Characters.{capitals}
 use Rattle.edits.specs.Edit.{firstBroken}
-use Rattle.record.specs.Judge.{rowsFor}
-use Rattle.record.specs.Kinds.{kindOf, marksOf}
+use Rattle.pfml.specs.Edits.{rowsFor}
+use Rattle.pfml.specs.Kinds.{kindOf, marksOf}
 use Rattle.build.specs.Building.{editsOfAll}
 use Rattle.build.specs.FillLaws.{taken-inside, fillFrom, fill-done, edits-done, edits-found, edits-next}
 use Rattle.build.specs.Values.{fillRecord}

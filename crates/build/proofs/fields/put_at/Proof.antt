@@ -1,8 +1,8 @@
 -- `build::fields::put_at` meets its contract.
 use mathlib.Core.Path.{_∙_}
 use borrow.Author.Needs.{needs}
-use Rattle.record.specs.Judge.{rowsFor}
-use Rattle.record.specs.Kinds.{kindOf}
+use Rattle.pfml.specs.Edits.{rowsFor}
+use Rattle.pfml.specs.Kinds.{kindOf}
 use Rattle.build.specs.FillLaws.{put-is}
 use Rattle.build.proofs.fields.put_at.Statement.{statement}
 use Rattle.build.proofs.fields.put_at.Tie as tie

@@ -7,8 +7,8 @@ use lib.ListN.{length}
 use borrow.Author.Needs.{needs}
 use Rattle.chars.specs.Characters.{capitals}
 use Rattle.text.specs.Put.{blanks}
-use Rattle.record.specs.Judge.{rowsFor}
-use Rattle.record.specs.Kinds.{kindOf}
+use Rattle.pfml.specs.Edits.{rowsFor}
+use Rattle.pfml.specs.Kinds.{kindOf}
 use Rattle.write.specs.PartLaws.{put-keeps}
 use Rattle.write.specs.Records.{putAll}
 use Rattle.build.specs.Building.{partOf}

@@ -4,9 +4,9 @@ use mathlib.Core.Path.{sym, ap, _∙_}
 use native.Mathlib.Omega.{arith}
 use lib.ListN.{length, getD, List·getD-eq-default}
 use borrow.Author.Needs.{needs}
-use Rattle.layout.specs.Fields.{fields, noRow, firstField}
-use Rattle.record.specs.Judge.{rowsFor}
-use Rattle.record.specs.declared.kind.Kind.{Kind}
+use Rattle.pfml_fields.specs.Fields.{fields, noRow, firstField}
+use Rattle.pfml.specs.Edits.{rowsFor}
+use Rattle.pfml.specs.declared.kind.Kind.{Kind}
 use Rattle.build.specs.RowLaws.{counted-by, place-small, row-there}
 use Rattle.build.proofs.fields.row_of.Statement.{statement}
 use Rattle.build.proofs.fields.row_of.Tie as tie

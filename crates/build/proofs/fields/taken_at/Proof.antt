@@ -1,7 +1,7 @@
 -- `build::fields::taken_at` meets its contract.
 use borrow.Author.Needs.{needs}
-use Rattle.record.specs.Judge.{rowsFor}
-use Rattle.record.specs.Kinds.{kindOf}
+use Rattle.pfml.specs.Edits.{rowsFor}
+use Rattle.pfml.specs.Kinds.{kindOf}
 use Rattle.build.specs.FillLaws.{taken-is}
 use Rattle.build.proofs.fields.taken_at.Statement.{statement}
 use Rattle.build.proofs.fields.taken_at.Tie as tie

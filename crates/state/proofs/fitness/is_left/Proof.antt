@@ -1,9 +1,8 @@
 -- `state::fitness::is_left` meets its contract.
 use borrow.Author.Needs.{needs}
-use borrow.Author.Tests.{lt-leb, le-leb}
+use Rattle.state.specs.Unfit.{isLeft}
 use Rattle.state.proofs.fitness.is_left.Statement.{statement}
 use Rattle.state.proofs.fitness.is_left.Tie as tie
-use Rattle.state.specs.Unfit.{isLeft}
 
 returns : tie.Need-returns
 unfolding isLeft
@@ -11,17 +10,11 @@ returns c = rw (← c .before .is-of-opening .ensures, c .if1 .taken)
 
 returns-2 : tie.Need-returns-2
 unfolding isLeft
-returns-2 c =
-    rw (← c .before .before .before .before .is-of-opening .ensures, c .before .before .before .if1 .left, ← c .before .before .is-known .ensures, c .before .if2 .taken, lt-leb _ _ (c .if3 .taken))
+returns-2 c = rw (← c .before .before .before .before .is-of-opening .ensures, c .before .before .before .if1 .left, ← c .before .before .is-known .ensures, c .before .if2 .taken, ← c .is-left .ensures)
 
 returns-3 : tie.Need-returns-3
 unfolding isLeft
-returns-3 c =
-    rw (← c .before .before .before .before .is-of-opening .ensures, c .before .before .before .if1 .left, ← c .before .before .is-known .ensures, c .before .if2 .taken, le-leb _ _ (c .if3 .left))
-
-returns-4 : tie.Need-returns-4
-unfolding isLeft
-returns-4 c = rw (← c .before .before .before .is-of-opening .ensures, c .before .before .if1 .left, ← c .before .is-known .ensures, c .if2 .left)
+returns-3 c = rw (← c .before .before .before .is-of-opening .ensures, c .before .before .if1 .left, ← c .before .is-known .ensures, c .if2 .left)
 
 pub is-left-spec : {M : Type 1} → statement M
-is-left-spec = tie.close (tie.spec (λ c κs. search needs) returns (λ c κs. search needs) returns-2 returns-3 returns-4)
+is-left-spec = tie.close (tie.spec (λ c κs. search needs) returns (λ c κs. search needs) (λ c κs. search needs) returns-2 returns-3)

@@ -3,15 +3,15 @@ use mathlib.Core.Path.{sym, ap, _∙_}
 use native.Mathlib.Omega.{arith}
 use borrow.Author.Needs.{needs}
 use Rattle.lines.specs.Lines.{firstLine}
-use Rattle.record.specs.Judge.{judgedBy}
-use Rattle.state.specs.UnfitLaws.{fit-file}
+use Rattle.shape.specs.Shape.{judgedBy}
+use Rattle.state.specs.UnfitLaws.{fit-lines}
 use Rattle.state.specs.Walks.{walkOf, standingOf}
 use Rattle.step.proofs.reading.read_line.Statement.{statement}
 use Rattle.step.proofs.reading.read_line.Tie as tie
 use Rattle.step.specs.ReadyLaws.{passed-ready}
 
 refuse-requires : tie.Need-refuse-requires
-refuse-requires c κs = fit-file _ (walkOf (c .before .before .before .before .before .before .args .st)) (c .before .before .before .before .before .before .pre .1) .lines-read
+refuse-requires c κs = fit-lines _ (walkOf (c .before .before .before .before .before .before .args .st)) (c .before .before .before .before .before .before .pre .1)
 
 go-on-requires : tie.Need-go-on-requires
 go-on-requires c κs = let a = c .before .before .before .before .before .before .args in

@@ -1,0 +1,53 @@
+-- The edits of a text in the stated order.
+use Prim.Native.Nat.{ℕ}
+use mathlib.Core.List.{List, [], _∷_, _++_}
+use Rattle.laws.specs.Text.{bytes}
+use Rattle.chars.specs.declared.columns.Allowed.the-variants.{Permitted}
+use Rattle.pfml_fields.specs.Fields.{fieldsOfA, fieldsOfE, fieldsOfS, fieldsOfT, fieldsOfF}
+use Rattle.pfml_fields.specs.Rules.{rulesOfA, rulesOfE, rulesOfS, rulesOfT, rulesOfF}
+use Rattle.edits.specs.Edit.{Edit, rule, eachColumn}
+use Rattle.edits.specs.Fields.{Around}
+use Rattle.edits.specs.Lists.{fieldEdits}
+use Rattle.edits.specs.declared.Context.{Context}
+use Rattle.edits.specs.declared.Seen.{Seen}
+use Rattle.pfml.specs.Kinds.{kindOn, marksOf, isKnown}
+use Rattle.pfml.specs.Place.{placeEdits, countEdit}
+use Rattle.pfml.specs.declared.kind.Kind.{Kind}
+use Rattle.pfml.specs.declared.kind.Kind.the-variants.{Transmitter, Employer, Employee, Total, Final, Unknown}
+
+-- The fields of each record, and the rule beside each.
+abbrev pub rowsFor : Kind → List (List ℕ)
+rowsFor Transmitter = fieldsOfA
+rowsFor Employer = fieldsOfE
+rowsFor Employee = fieldsOfS
+rowsFor Total = fieldsOfT
+rowsFor Final = fieldsOfF
+rowsFor Unknown = []
+
+abbrev pub rulesFor : Kind → List ℕ
+rulesFor Transmitter = rulesOfA
+rulesFor Employer = rulesOfE
+rulesFor Employee = rulesOfS
+rulesFor Total = rulesOfT
+rulesFor Final = rulesOfF
+rulesFor Unknown = []
+
+-- "The entity code is PFML"
+abbrev pub around : Context → Seen → Kind → Around
+around here seen kind = record { marks = marksOf kind; code = bytes "PFML"; here = here; seen = seen }
+
+-- The place rules, "Then an S beyond 100,000 gives 61, column 1."
+abbrev pub placedEdits : Context → Kind → List Edit
+placedEdits here kind = placeEdits (here .phase) (here .open .follow) kind ++ (countEdit kind (here .all .count) ∷ [])
+
+-- "characters, letter, place"
+abbrev pub headEdits : Context → List ℕ → Kind → List Edit
+headEdits here text kind = eachColumn 3 Permitted text 1 290 ∷ rule 4 1 (isKnown kind) ∷ placedEdits here kind
+
+-- "characters, letter, place, then fields by first column": of a record of this kind
+abbrev pub textEdits : Context → Seen → List ℕ → Kind → List Edit
+textEdits here seen text kind = headEdits here text kind ++ fieldEdits (around here seen kind) text (rowsFor kind) (rulesFor kind)
+
+-- of the record on the text
+abbrev pub editsOn : Context → Seen → List ℕ → List Edit
+editsOn here seen text = textEdits here seen text (kindOn text)

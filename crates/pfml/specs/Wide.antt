@@ -1,0 +1,64 @@
+-- Every field of the five records is as wide as its class asks.
+use Prim.Native.Nat.{ℕ, suc, _+_, _-_, _<_, _≤_}
+use mathlib.Core.Bool.{true}
+use mathlib.Core.List.{[]}
+use mathlib.Core.Path.{_≡_, _∙_, subst}
+use native.Mathlib.Omega.{arith}
+use native.Mathlib.Nat.{not-suc-le-zero}
+use lib.Dec.{eqb}
+use lib.ListN.{getD, take, drop, length-take, length-drop}
+use lib.Seq.{getD-take, getD-drop}
+use borrow.Author.Tests.{eqb-true}
+use Rattle.laws.specs.Lists.{any-default}
+use Rattle.field.specs.Classes.{classOf}
+use Rattle.field.specs.declared.class.Class.{Class}
+use Rattle.field.specs.declared.class.Class.the-variants.{Ignored, RecordLetter, BlankSpace, Numeric, AccountNumber, Flag, ThirdQuarterFlag, Period, RequiredText, OptionalText, PersonName, EntityCode, StateCode, ZipCode, ZipExtension, TaxYear, EmployerFein, IdentityNumber, CeaseDate}
+use Rattle.pfml_fields.specs.Fields.{classIn, firstIn, lastIn, fields}
+use Rattle.pfml_fields.specs.Fit.{widthTest, class-widths}
+use Rattle.pfml_fields.specs.Rows.{all-fields, part-of-A, part-of-E, part-of-S, part-of-T, part-of-F}
+use Rattle.edits.specs.Fields.{noRow}
+use Rattle.edits.specs.ListLaws.{AllWide}
+use Rattle.edits.specs.Parts.{Wide, Readable}
+use Rattle.pfml.specs.Edits.{rowsFor}
+use Rattle.pfml.specs.declared.kind.Kind.{Kind}
+use Rattle.pfml.specs.declared.kind.Kind.the-variants.{Transmitter, Employer, Employee, Total, Final, Unknown}
+
+readable : (w first last : ℕ) → w ≤ 18 → eqb (last - (first - 1)) (suc w) ≡ true → Readable first last
+readable w first last small e = let width = eqb-true (last - (first - 1)) (suc w) e in (omega arith, omega arith)
+
+wide-of : (class : Class) (first last : ℕ) → widthTest class (last - (first - 1)) ≡ true → Wide class first last
+wide-of Ignored first last e = tt
+wide-of RecordLetter first last e = tt
+wide-of BlankSpace first last e = tt
+wide-of Numeric first last e = tt
+wide-of AccountNumber first last e = tt
+wide-of Flag first last e = tt
+wide-of ThirdQuarterFlag first last e = tt
+wide-of Period first last e = tt
+wide-of RequiredText first last e = tt
+wide-of OptionalText first last e = tt
+wide-of PersonName first last e = tt
+wide-of EntityCode first last e = tt
+wide-of StateCode first last e = tt
+wide-of ZipCode first last e = tt
+wide-of ZipExtension first last e = tt
+wide-of TaxYear first last e = readable 3 first last (omega arith) e
+wide-of EmployerFein first last e = readable 8 first last (omega arith) e
+wide-of IdentityNumber first last e = readable 8 first last (omega arith) e
+wide-of CeaseDate first last e = readable 7 first last (omega arith) e
+
+part-wide : (from n : ℕ) → from + n ≤ 72 → AllWide (take n (drop from fields))
+part-wide from n fits k h =
+    let here : k < n = let l = simp (length-take, length-drop) at h in omega arith in
+    let there : from + k < 72 = omega arith in
+    let row : getD (take n (drop from fields)) k noRow ≡ getD fields (from + k) [] =
+    getD-take n (drop from fields) k noRow here ∙ getD-drop from fields k noRow ∙ any-default fields (from + k) noRow [] (rw all-fields there) in
+    rw row (wide-of (classOf (classIn (getD fields (from + k) []))) (firstIn (getD fields (from + k) [])) (lastIn (getD fields (from + k) [])) (class-widths (from + k) there))
+
+pub rows-wide : (kind : Kind) → AllWide (rowsFor kind)
+rows-wide Transmitter = subst (λ rows. AllWide rows) part-of-A (part-wide 0 17 (omega arith))
+rows-wide Employer = subst (λ rows. AllWide rows) part-of-E (part-wide 17 28 (omega arith))
+rows-wide Employee = subst (λ rows. AllWide rows) part-of-S (part-wide 45 13 (omega arith))
+rows-wide Total = subst (λ rows. AllWide rows) part-of-T (part-wide 58 7 (omega arith))
+rows-wide Final = subst (λ rows. AllWide rows) part-of-F (part-wide 65 7 (omega arith))
+rows-wide Unknown = λ k h. absurd (not-suc-le-zero h)

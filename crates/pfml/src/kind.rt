@@ -1,0 +1,88 @@
+// The five records, by their letters.
+use edits::Marks;
+ghost use mathlib.Core.Path.{_≡_};
+ghost use Rattle.pfml.specs.Kinds.{kindOf, placeInOrder, marksOf};
+
+pub enum Kind {
+    // A
+    Transmitter,
+    // E
+    Employer,
+    // S
+    Employee,
+    // T
+    Total,
+    // F
+    Final,
+    // Another letter.
+    Unknown,
+}
+
+// The record that a letter names; the letter is a capital.
+pub fn kind_of(letter: u8) -> Kind
+    ensures { λ r. ⌜ r ≡ kindOf letter ⌝ }
+{
+    match letter {
+        b'A' => Kind::Transmitter,
+        b'E' => Kind::Employer,
+        b'S' => Kind::Employee,
+        b'T' => Kind::Total,
+        b'F' => Kind::Final,
+        _ => Kind::Unknown,
+    }
+}
+
+// The record's place in the order A, E, S, T, F, from 0.
+pub fn order_of(kind: Kind) -> usize
+    ensures { λ r. ⌜ r ≡ placeInOrder kind ⌝ }
+{
+    match kind {
+        Kind::Transmitter => 0,
+        Kind::Employer => 1,
+        Kind::Employee => 2,
+        Kind::Total => 3,
+        Kind::Final => 4,
+        Kind::Unknown => 5,
+    }
+}
+
+fn no_marks() -> Marks
+    ensures { λ r. ⌜ r ≡ marksOf Kind.Unknown ⌝ }
+{
+    Marks {
+        year_first: 0,
+        year_last: 0,
+        period_first: 0,
+        period_last: 0,
+        state: 0,
+        final_flag: 0,
+    }
+}
+
+// The columns of a record that the rules of its other fields look at.
+pub fn marks_of(kind: Kind) -> Marks
+    ensures { λ r. ⌜ r ≡ marksOf kind ⌝ }
+{
+    match kind {
+        Kind::Transmitter => Marks {
+            year_first: 2,
+            year_last: 5,
+            period_first: 19,
+            period_last: 20,
+            state: 139,
+            final_flag: 0,
+        },
+        Kind::Employer => Marks {
+            year_first: 2,
+            year_last: 5,
+            period_first: 188,
+            period_last: 189,
+            state: 139,
+            final_flag: 282,
+        },
+        Kind::Employee => no_marks(),
+        Kind::Total => no_marks(),
+        Kind::Final => no_marks(),
+        Kind::Unknown => no_marks(),
+    }
+}

@@ -1,0 +1,158 @@
+// PFML, the paid leave wage file of 290 characters: the edits of one line in the stated order, and what the record on it says and asks.
+pub mod fitness;
+pub mod kind;
+pub mod place;
+pub mod said;
+
+use chars::columns;
+use chars::columns::Allowed;
+use edits::Context;
+use edits::Marks;
+use edits::Seen;
+use edits::fields;
+use kind::Kind;
+use pfml_fields::rules;
+use reason::Edit;
+use reason::Reason;
+use shape::Asking;
+use shape::Said;
+ghost use mathlib.Core.Path.{_≡_};
+ghost use Prim.Native.Nat.{_-_, _≤_};
+ghost use lib.ListN.{take, drop};
+ghost use Rattle.laws.specs.Text.{bytes};
+ghost use Rattle.reason.specs.Numbers.{findingOf};
+ghost use Rattle.chars.specs.Characters.{capitals};
+ghost use Rattle.edits.specs.Edit.{firstBroken};
+ghost use Rattle.edits.specs.Tests.{fieldsTest};
+ghost use Rattle.edits.specs.Lists.{fieldEdits};
+ghost use Rattle.pfml_fields.specs.Fields.{fields as allFields};
+ghost use Rattle.pfml_fields.specs.Rules.{rules};
+ghost use Rattle.shape.specs.Shape.{feinAsked, idAsked};
+ghost use Rattle.pfml.specs.Edits.{rowsFor, rulesFor, around as aroundOf, placedEdits, headEdits, textEdits, editsOn};
+ghost use Rattle.pfml.specs.Says.{says};
+ghost use Rattle.pfml.specs.Kinds.{isKnown};
+ghost use Rattle.chars.specs.Columns.{unless};
+
+// The taxing entity's code.
+pub const ENTITY: [u8; 4] = *b"PFML";
+
+// The fields from number `from` up to `to`, left out.
+fn fields_between(
+    marks: Marks,
+    here: Context,
+    seen: Seen,
+    line: &[u8],
+    from: usize,
+    to: usize,
+) -> Edit
+    requires { ⌜ (from ≤ to) × (to ≤ 72) ⌝ }
+    ensures { λ r. ⌜ findingOf r ≡ fieldsTest (record { marks = marks; code = bytes "PFML"; here = here; seen = seen }) (capitals (now (line .entry))) (take (to - from) (drop from allFields)) (take (to - from) (drop from rules)) ⌝ }
+{
+    let rows = pfml_fields::all_rows();
+    let rules = rules::all_rules();
+    fields::first_broken(
+        marks,
+        ENTITY,
+        here,
+        seen,
+        line,
+        &rows[from..to],
+        &rules[from..to],
+    )
+}
+
+fn fields_edit(kind: Kind, here: Context, seen: Seen, line: &[u8]) -> Edit
+    ensures { λ r. ⌜ findingOf r ≡ firstBroken (fieldEdits (aroundOf here seen kind) (capitals (now (line .entry))) (rowsFor kind) (rulesFor kind)) ⌝ }
+{
+    let marks = kind::marks_of(kind);
+    match kind {
+        Kind::Transmitter => fields_between(marks, here, seen, line, 0, 17),
+        Kind::Employer => fields_between(marks, here, seen, line, 17, 45),
+        Kind::Employee => fields_between(marks, here, seen, line, 45, 58),
+        Kind::Total => fields_between(marks, here, seen, line, 58, 65),
+        Kind::Final => fields_between(marks, here, seen, line, 65, 72),
+        Kind::Unknown => Edit::Passed,
+    }
+}
+
+// Place and count of a record whose letter is known.
+fn placed_edit(kind: Kind, here: Context) -> Edit
+    ensures { λ r. ⌜ findingOf r ≡ firstBroken (placedEdits here kind) ⌝ }
+{
+    let open = here.open;
+    let all = here.all;
+    let phase = here.phase;
+    let e = place::place_edit(phase, open.follow, kind);
+    match e {
+        Edit::Broken(_, _) => e,
+        Edit::Passed => place::count_edit(kind, all.count),
+    }
+}
+
+// A letter that names no record.
+fn letter_edit(kind: Kind) -> Edit
+    ensures { λ r. ⌜ findingOf r ≡ unless (isKnown kind) 1 4 ⌝ }
+{
+    match kind {
+        Kind::Transmitter => Edit::Passed,
+        Kind::Employer => Edit::Passed,
+        Kind::Employee => Edit::Passed,
+        Kind::Total => Edit::Passed,
+        Kind::Final => Edit::Passed,
+        Kind::Unknown => Edit::Broken(1, Reason::UnknownLetter),
+    }
+}
+
+// Characters, letter, place and count.
+fn head_edit(kind: Kind, here: Context, line: &[u8]) -> Edit
+    ensures { λ r. ⌜ findingOf r ≡ firstBroken (headEdits here (capitals (now (line .entry))) kind) ⌝ }
+{
+    let e = columns::every_column(Allowed::Permitted, line, 1, pfml_fields::RECORD);
+    if let Edit::Broken(_, _) = e {
+        return e;
+    }
+    let l = letter_edit(kind);
+    if let Edit::Broken(_, _) = l {
+        return l;
+    }
+    placed_edit(kind, here)
+}
+
+// All edits of a record of this kind.
+fn kind_edit(kind: Kind, here: Context, seen: Seen, line: &[u8]) -> Edit
+    ensures { λ r. ⌜ findingOf r ≡ firstBroken (textEdits here seen (capitals (now (line .entry))) kind) ⌝ }
+{
+    let e = head_edit(kind, here, line);
+    match e {
+        Edit::Broken(_, _) => e,
+        Edit::Passed => fields_edit(kind, here, seen, line),
+    }
+}
+
+// All edits of a line of the right length.
+pub fn text_edit(here: Context, seen: Seen, line: &[u8]) -> Edit
+    ensures { λ r. ⌜ findingOf r ≡ firstBroken (editsOn here seen (capitals (now (line .entry)))) ⌝ }
+{
+    kind_edit(kind::kind_of(chars::char_at(line, 0)), here, seen, line)
+}
+
+// What the record on a line says.
+pub fn said_on(line: &[u8]) -> Said
+    ensures { λ r. ⌜ r ≡ says (capitals (now (line .entry))) ⌝ }
+{
+    said::said_by(kind::kind_of(chars::char_at(line, 0)), line)
+}
+
+// What the record on a line asks of the employer list.
+pub fn fein_asked(line: &[u8]) -> Asking
+    ensures { λ r. ⌜ r ≡ feinAsked (says (capitals (now (line .entry)))) ⌝ }
+{
+    said::fein_asked(kind::kind_of(chars::char_at(line, 0)), line)
+}
+
+// What the record on a line asks of the id table.
+pub fn id_asked(line: &[u8]) -> Asking
+    ensures { λ r. ⌜ r ≡ idAsked (says (capitals (now (line .entry)))) ⌝ }
+{
+    said::id_asked(kind::kind_of(chars::char_at(line, 0)), line)
+}

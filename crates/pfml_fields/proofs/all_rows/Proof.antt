@@ -1,0 +1,12 @@
+-- `pfml_fields::all_rows` meets its contract: the constant is the list of the definition, computed.
+use mathlib.Core.Path.{refl}
+use Rattle.pfml_fields.specs.Fields.{fieldsOfA, fieldsOfE, fieldsOfS, fieldsOfT, fieldsOfF, fields}
+use Rattle.pfml_fields.proofs.all_rows.Statement.{statement}
+use Rattle.pfml_fields.proofs.all_rows.Tie as tie
+
+returns : tie.Need-returns
+unfolding fields fieldsOfA fieldsOfE fieldsOfS fieldsOfT fieldsOfF
+returns c = refl
+
+pub all-rows-spec : {M : Type 1} → statement M
+all-rows-spec = tie.close (tie.spec returns)

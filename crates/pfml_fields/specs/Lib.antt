@@ -1,0 +1,7 @@
+pub mod Fields
+pub mod Rows
+pub mod Tiling
+pub mod Fit
+pub mod Map
+pub mod MapLaws
+pub mod Rules

@@ -1,0 +1,13 @@
+-- `record::fein_asked` meets its contract.
+use borrow.Author.Needs.{needs}
+use Rattle.record.proofs.fein_asked.Statement.{statement}
+use Rattle.record.proofs.fein_asked.Tie as tie
+
+returns : tie.Need-returns
+returns c = rw (c .before .enum-told .given .1) (c .fein-asked .ensures)
+
+returns-2 : tie.Need-returns-2
+returns-2 c = rw (c .before .enum-told2 .given .1) (c .asks-nothing .ensures)
+
+pub fein-asked-spec : {M : Type 1} → statement M
+fein-asked-spec = tie.close (tie.spec (λ c. search needs) (λ c κs. search needs) (λ c. search needs) (λ c κs. search needs) returns returns-2)

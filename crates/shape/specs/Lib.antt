@@ -1,0 +1,16 @@
+pub mod Limits
+pub mod Phases
+pub mod Ends
+pub mod EndLaws
+pub mod Shape
+pub mod After
+pub mod Fits
+pub mod Hidden
+pub mod Twins
+pub mod Lawful
+pub mod Theorems
+pub mod Among
+pub mod Blot
+pub mod Judged
+pub mod Once
+pub mod NoFormat

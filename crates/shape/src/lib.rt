@@ -1,0 +1,71 @@
+// What the machine knows of a line, in every format: what its record says and asks, and the verdict on it.
+use calendar::Quarter;
+use edits::Phase;
+use reason::Edit;
+use reason::Reason;
+ghost use mathlib.Core.Path.{_≡_};
+ghost use Rattle.reason.specs.Numbers.{findingOf};
+ghost use Rattle.edits.specs.Edit.{firstBroken};
+ghost use Rattle.shape.specs.Ends.{endEdits};
+ghost use Rattle.shape.specs.Shape.{asksNothing};
+
+// An E record: its FEIN, whether S records follow, whether it amends a return, whether it closes the business, and the cease date.
+pub struct EmployerOn {
+    pub fein: u64,
+    pub follow: bool,
+    pub amended: bool,
+    pub closing: bool,
+    pub date: u64,
+}
+
+// An S record: the identity number, the wages in cents, and a second amount in cents, 0 in a format that has none.
+pub struct EmployeeOn {
+    pub id: u64,
+    pub wages: u64,
+    pub second: u64,
+}
+
+// What a record says to the walk; a line of no record says nothing.
+pub enum Said {
+    OfA(Quarter),
+    OfE(EmployerOn),
+    OfS(EmployeeOn),
+    OfT,
+    OfF,
+    OfNone,
+}
+
+// What a record asks of a lent table: whether this number stands in it, or nothing.
+pub struct Asking {
+    pub asks: bool,
+    pub number: u64,
+}
+
+// A refusal, with its column; or the bytes that the line and its end take, and what its record says.
+pub enum Verdict {
+    Refused(u16, Reason),
+    Passed(usize, Said),
+}
+
+// A record that asks nothing.
+pub fn asks_nothing() -> Asking
+    ensures { λ r. ⌜ r ≡ asksNothing ⌝ }
+{
+    Asking {
+        asks: false,
+        number: 0,
+    }
+}
+
+// What the end of the input finds: only after F may it come.
+pub fn end_edit(phase: Phase) -> Edit
+    ensures { λ r. ⌜ findingOf r ≡ firstBroken (endEdits phase) ⌝ }
+{
+    match phase {
+        Phase::BeforeA => Edit::Broken(1, Reason::EndsBeforeA),
+        Phase::AfterA => Edit::Broken(1, Reason::EndsAfterA),
+        Phase::EOpen => Edit::Broken(1, Reason::EndsWithEOpen),
+        Phase::AfterT => Edit::Broken(1, Reason::EndsWithoutF),
+        Phase::AfterF => Edit::Passed,
+    }
+}
