@@ -3,7 +3,7 @@ import os
 import subprocess
 
 ROOT = os.path.dirname(os.path.dirname(os.path.abspath(__file__)))
-LIBRARY = os.path.join(ROOT, "target", "staticlib", "libcapi.a")
+LIBRARY = os.path.join(ROOT, "target", "staticlib", "libwage.a")
 BUILD, RUN = (os.path.join(ROOT, "tools", name) for name in ("build-c", "run-program"))
 
 
@@ -24,7 +24,7 @@ def library():
     """Proves and builds the library, unless nothing changed since it was."""
     made_of = (os.path.join(ROOT, "crates"), os.path.join(ROOT, "crates.txt"))
     if not os.path.exists(LIBRARY) or os.path.getmtime(LIBRARY) < newest(*made_of):
-        run("rt staticlib capi", "rt", "staticlib", "capi")
+        run("rt staticlib wage", "rt", "staticlib", "wage")
     return LIBRARY
 
 

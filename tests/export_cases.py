@@ -132,7 +132,7 @@ def stack_on_every_path():
 
 
 def exports():
-    source = "".join(read("crates", "capi", "src", name).decode() for name in sorted(os.listdir(os.path.join(ROOT, "crates", "capi", "src"))))
+    source = "".join(read("crates", "wage", "src", name).decode() for name in sorted(os.listdir(os.path.join(ROOT, "crates", "wage", "src"))))
     return sorted(re.findall(r'#\[no_mangle\]\s+pub extern "C" fn (\w+)', source))
 
 

@@ -1,7 +1,7 @@
 #!/usr/bin/env python3
-"""The stored cases of the program `replay`: made here, with the answers of tests/reference.py.
+"""The stored cases of the program `test_fields`: made here, with the answers of tests/reference.py.
 
-    tests/field_cases.py           compare crates/replay/stdin and stdout with what is made here
+    tests/field_cases.py           compare crates/test_fields/stdin and stdout with what is made here
     tests/field_cases.py --write   write them
 
 The program is run on them, and held to the answers, by `rt check` and `rt ci`.
@@ -210,7 +210,7 @@ def main():
     if len(given) > 65536:
         print("the cases take %d bytes, the program reads 65536" % len(given))
         return 2
-    paths = [os.path.join(ROOT, "crates", "replay", n) for n in ("stdin", "stdout")]
+    paths = [os.path.join(ROOT, "crates", "test_fields", n) for n in ("stdin", "stdout")]
     if "--write" in sys.argv:
         for path, text in zip(paths, (given, told)):
             with open(path, "w", encoding="latin-1", newline="") as f:

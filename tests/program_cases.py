@@ -5,8 +5,8 @@
     tests/program_cases.py --seed N    a fixed seed, and N
     tests/program_cases.py --all-bytes every byte value at every place of a small file, instead
 
-Files go through the program `batch` in reads of many sizes, some of them through `acknowledge` itself, and scripts of calls through the C program
-tests/c/calls.c over the exports. It needs cargo, and the programs: `rt check acknowledge batch` builds them; library and C program are built here.
+Files go through the program `test_files` in reads of many sizes, some of them through `acknowledge` itself, and scripts of calls through the C program
+tests/c/calls.c over the exports. It needs cargo, and the programs: `rt check acknowledge test_files` builds them; library and C program are built here.
 """
 import os
 import random
@@ -71,7 +71,7 @@ def build():
 
 
 def answers(told):
-    """The answers of `batch`, or the expected ones: each ends with a line that has a full stop."""
+    """The answers of `test_files`, or the expected ones: each ends with a line that has a full stop."""
     return told.split(b".\n")[:-1]
 
 
@@ -85,14 +85,14 @@ def compare(what, got, expected):
 
 
 def made(arguments, folder):
-    """The answers of `batch` and those expected. The reference writes the inputs into a pipe that `batch` reads."""
+    """The answers of `test_files` and those expected. The reference writes the inputs into a pipe that `test_files` reads."""
     inputs, expected = os.path.join(folder, "inputs"), os.path.join(folder, "expected")
     os.mkfifo(inputs)
     words = [word for word in arguments if not str(word).startswith("--")]
     flags = [word for word in arguments if str(word).startswith("--")]
     maker = subprocess.Popen(reference(*words, inputs, expected, *flags), stdout=subprocess.PIPE, text=True)
     with open(inputs, "rb") as pipe:
-        got = subprocess.run(program("batch"), stdin=pipe, stdout=subprocess.PIPE).stdout
+        got = subprocess.run(program("test_files"), stdin=pipe, stdout=subprocess.PIPE).stdout
         while pipe.read(1 << 20):
             pass
     table = maker.communicate()[0]
@@ -102,7 +102,7 @@ def made(arguments, folder):
         return answers(got), answers(told.read()), table
 
 
-def through_batch(*arguments):
+def through_test_files(*arguments):
     """Compares, and hands back the program's answers and the reference's table."""
     with tempfile.TemporaryDirectory() as folder:
         got, expected, table = made(arguments, folder)
@@ -117,11 +117,11 @@ def numbers(table):
 
 def pairs(seed):
     """Demand 3: two files that are alike but for the employees get the same answer; where one of its conditions is broken, another."""
-    got, table = through_batch("pairs", seed, PAIRS)
+    got, table = through_test_files("pairs", seed, PAIRS)
     differ = sum(one != other for one, other in zip(got[0::2], got[1::2]))
     tell("pairs of seed %s that are alike, answered the same" % seed, len(got) // 2, differ)
     print(table[table.index("otherwise than meant"):].strip())
-    got, _ = through_batch("needed")
+    got, _ = through_test_files("needed")
     alike = sum(one == other for one, other in zip(got[0::2], got[1::2]))
     tell("pairs that break one condition, answered otherwise", len(got) // 2, alike)
 
@@ -169,17 +169,17 @@ def alone(seed, cases):
 def main(arguments):
     build()
     if arguments == ["--all-bytes"]:
-        through_batch("cases", FIXED_SEED, 0, "--all-bytes")
+        through_test_files("cases", FIXED_SEED, 0, "--all-bytes")
     else:
         drawn = int(arguments[1]) if arguments[:1] == ["--seed"] else random.SystemRandom().randrange(1 << 32)
         print("seeds: %d, and drawn: %d" % (FIXED_SEED, drawn))
         for seed, count in ((FIXED_SEED, FIXED_CASES), (drawn, DRAWN_CASES)):
-            table = through_batch("cases", seed, count)[1]
+            table = through_test_files("cases", seed, count)[1]
             print(numbers(table) if seed == FIXED_SEED else "")
             through_calls(seed)
             alone(seed, [(count, k) for k in range(ALONE)])
         pairs(drawn)
-        print(numbers(through_batch("long", FIXED_SEED, LONG_CASES)[1]))
+        print(numbers(through_test_files("long", FIXED_SEED, LONG_CASES)[1]))
         alone(FIXED_SEED, [(LONG_CASES, k, "--long") for k in range(LONG_ALONE)])
     print("%d passed, %d failed" % (passed, failed))
     return 1 if failed else 0

@@ -1,7 +1,7 @@
 #!/usr/bin/env python3
-"""The stored cases of the program `trial`: lines in contexts of their own, made here, with the verdicts of a reading of the paper of its own.
+"""The stored cases of the program `test_lines`: lines in contexts of their own, made here, with the verdicts of a reading of the paper of its own.
 
-    tests/record_cases.py                 compare crates/trial/stdin and stdout with what is made here
+    tests/record_cases.py                 compare crates/test_lines/stdin and stdout with what is made here
     tests/record_cases.py --write         write them
     tests/record_cases.py --seed N FILE   write other cases to FILE, and their verdicts to FILE.told
 
@@ -330,7 +330,7 @@ def main():
         write(path + ".told", told)
         return 0
     given, told = made(290)
-    paths = [os.path.join(ROOT, "crates", "trial", n) for n in ("stdin", "stdout")]
+    paths = [os.path.join(ROOT, "crates", "test_lines", n) for n in ("stdin", "stdout")]
     if "--write" in sys.argv:
         for path, text in zip(paths, (given, told)):
             write(path, text)

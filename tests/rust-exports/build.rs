@@ -1,4 +1,4 @@
-//! Links libcapi.a, which `rt staticlib capi` writes. It is for x86-64 Linux.
+//! Links libwage.a, which `rt staticlib wage` writes. It is for x86-64 Linux.
 
 use std::path::Path;
 
@@ -6,9 +6,9 @@ fn main() {
     let root = Path::new(env!("CARGO_MANIFEST_DIR")).join("../..");
     let folder = root.join("target/staticlib");
     println!("cargo:rustc-link-search=native={}", folder.display());
-    println!("cargo:rustc-link-lib=static=capi");
+    println!("cargo:rustc-link-lib=static=wage");
     println!(
         "cargo:rerun-if-changed={}",
-        folder.join("libcapi.a").display()
+        folder.join("libwage.a").display()
     );
 }

@@ -7,7 +7,7 @@ use denote.Struct.Laws as LL
 use Rattle.edits.proofs.Opening as O
 use Rattle.edits.proofs.Opening.Laws as O′
 use Rattle.tables.specs.Room.{tables}
-use Rattle.tables.proofs.Walk.{URA, Heap, Atoms, Given, Memory, Routine, Fun, SProp, emp, id⊢, vbool, bool-tells, Callee, total}
+use Rattle.by_hand.proofs.Walk.{URA, Heap, Atoms, Given, Memory, Routine, Fun, SProp, emp, id⊢, vbool, bool-tells, Callee, total}
 use Rattle.state.specs.Walks.{walkOf}
 use Rattle.step.specs.Moves.{takenIn}
 use Rattle.ack.specs.Answers.{progressOf, turnedBy}

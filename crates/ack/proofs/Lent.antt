@@ -13,7 +13,7 @@ use denote.Shadow.{shadow}
 use denote.Slice.{at-slice, finally}
 use Rattle.tables.specs.declared.Employer.{Employer}
 use Rattle.tables.proofs.Employer as T
-use Rattle.tables.proofs.Walk.{URA, Heap, Atoms, Given, Item, Lft, Share, GName, RefT, Val, fullShare, named, flft, ‵, _$_, move, sliceVal, MutSlice, ShrSlice, named-as, holding, KeptAgain, lends-again, comes-back}
+use Rattle.by_hand.proofs.Walk.{URA, Heap, Atoms, Given, Item, Lft, Share, GName, RefT, Val, fullShare, named, flft, ‵, _$_, move, sliceVal, MutSlice, ShrSlice, named-as, holding, KeptAgain, lends-again, comes-back}
 
 pub record Lent : Type 0 where
   pub κ₀ : Lft

@@ -7,7 +7,7 @@ use denote.Struct.Laws as LL
 use Rattle.edits.specs.declared.format.Format.{Format}
 use Rattle.edits.proofs.format.Format as Fo
 use Rattle.edits.proofs.format.Format.Laws as Fo′
-use Rattle.tables.proofs.Walk.{Field, Val, tyBool, w64}
+use Rattle.by_hand.proofs.Walk.{Field, Val, tyBool, w64}
 use Rattle.state.proofs.State.Laws as S′
 use Rattle.ack.specs.declared.Place.{Place}
 use Rattle.ack.specs.declared.Progress.{Progress}

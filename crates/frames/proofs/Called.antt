@@ -4,7 +4,7 @@ use mathlib.Core.Path.{_≡_, refl}
 use lib.ListN.{length, take}
 use contract.Monad.{factI}
 use denote.Enum.Laws as EL
-use Rattle.tables.proofs.Walk.{URA, Heap, Atoms, Given, Memory, Routine, Fun, SProp, emp, id⊢, w64, vunit, vint, nothing-tells, uint-tells, Callee, total}
+use Rattle.by_hand.proofs.Walk.{URA, Heap, Atoms, Given, Memory, Routine, Fun, SProp, emp, id⊢, w64, vunit, vint, nothing-tells, uint-tells, Callee, total}
 use Rattle.state.specs.Walks.{walkOf}
 use Rattle.frames.specs.Frames.{employerFrame, employerFrames, framedBy, framing}
 use Rattle.frames.specs.Parts.{employersFramed, lastFraming}

@@ -41,7 +41,7 @@ use Rattle.tables.specs.declared.Employer.{Employer}
 use Rattle.tables.proofs.Employer as T
 use Rattle.tables.proofs.Employer.Laws as T′
 use Rattle.tables.proofs.Entries.{at-rest}
-use Rattle.tables.proofs.Walk.{URA, Heap, Atoms, Given, Memory, Routine, Fun, SProp, Env, Triple, FmC, Item, Lft, Share, GName, RefT, Room, Val, Is, fullShare, named, w8, vint, vbool, flft, runs, ‵, _$_, move, sliceVal, MutSlice, ShrSlice, named-as, holding, KeptAgain, KeptShared, spotOf, sets, rep, typed-array, Asked, held, made, asks, lends-again, comes-back, lends-shared, shared-back, fronts, front-of, number-copy, array-at, lends-array, array-given, uint-makes, bool-makes}
+use Rattle.by_hand.proofs.Walk.{URA, Heap, Atoms, Given, Memory, Routine, Fun, SProp, Env, Triple, FmC, Item, Lft, Share, GName, RefT, Room, Val, Is, fullShare, named, w8, vint, vbool, flft, runs, ‵, _$_, move, sliceVal, MutSlice, ShrSlice, named-as, holding, KeptAgain, KeptShared, spotOf, sets, rep, typed-array, Asked, held, made, asks, lends-again, comes-back, lends-shared, shared-back, fronts, front-of, number-copy, array-at, lends-array, array-given, uint-makes, bool-makes}
 use Rattle.state.specs.declared.State.{State}
 use Rattle.state.proofs.State as S
 use Rattle.state.proofs.State.Laws as S′

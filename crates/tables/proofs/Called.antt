@@ -15,7 +15,7 @@ use types.Kit.{Given}
 use denote.Plain.{uint-tells, bool-tells, nothing-tells}
 use denote.Struct.Laws as LL
 use Rattle.tables.specs.Tables.{wiped, isAmong, noEmployer, opened, closed, feinsOf}
-use Rattle.tables.proofs.Walk.{Callee, total}
+use Rattle.by_hand.proofs.Walk.{Callee, total}
 use Rattle.tables.proofs.Employer as T
 use Rattle.tables.proofs.Employer.Laws as T′
 use Rattle.tables.proofs.lesser as lesser-fn

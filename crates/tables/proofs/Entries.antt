@@ -32,7 +32,7 @@ use denote.Steps.{owned}
 use denote.Struct.Laws as LL
 use Rattle.tables.specs.declared.Employer.{Employer}
 use Rattle.tables.specs.Tables.{noEmployer}
-use Rattle.tables.proofs.Walk.{holding, twice, sets}
+use Rattle.by_hand.proofs.Walk.{holding, twice, sets}
 use Rattle.tables.proofs.Employer as T
 use Rattle.tables.proofs.Employer.Laws as T′
 

@@ -6,7 +6,7 @@ use contract.Monad.{factI}
 use denote.Struct.Laws as LL
 use Rattle.lines.specs.Lines.{firstLine}
 use Rattle.tables.specs.Room.{tables}
-use Rattle.tables.proofs.Walk.{URA, Heap, Atoms, Given, Memory, Routine, Fun, SProp, emp, id⊢, w64, vint, vunit, uint-tells, nothing-tells, Callee, total}
+use Rattle.by_hand.proofs.Walk.{URA, Heap, Atoms, Given, Memory, Routine, Fun, SProp, emp, id⊢, w64, vint, vunit, uint-tells, nothing-tells, Callee, total}
 use Rattle.state.specs.Walks.{walkOf}
 use Rattle.step.specs.Moves.{takenIn, movedBy, openMoved, lineSeen, endMoved}
 use Rattle.step.specs.Questions.{feinAskedBy, idAskedBy, lookedAt, idFound}

@@ -7,7 +7,7 @@ use denote.Struct.Laws as LL
 use Rattle.edits.specs.declared.Opening.{Opening}
 use Rattle.edits.proofs.Opening as O
 use Rattle.edits.proofs.Opening.Laws as O′
-use Rattle.tables.proofs.Walk.{Field, Val}
+use Rattle.by_hand.proofs.Walk.{Field, Val}
 use Rattle.state.specs.declared.State.{State}
 use Rattle.state.proofs.State as S
 use Rattle.state.proofs.State.Laws as S′

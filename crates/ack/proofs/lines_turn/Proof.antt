@@ -13,7 +13,7 @@ use denote.Struct.Laws as LL
 use Rattle.tables.specs.Room.{tables as tablesOf′}
 use Rattle.tables.specs.declared.Employer.{Employer}
 use Rattle.tables.proofs.Employer as T
-use Rattle.tables.proofs.Walk.{URA, Heap, Atoms, Given, Memory, Routine, Fun, SProp, Item, prop, Env, Tables, Val, Room, Is, Sq, Triple, Places, Ends, gone, kept-slice, Exit, finishes, proves, locals, envOf, lets-go, lose, var, part, counts, sets, resets, receives, relends, tests, whens, Asked, held, made, asks, asks-last, named-as, holding, twice, Nearer, nearer-wf, Turned as TurnedFrom, none, some, fullShare, named, w64, vint, vbool, givenOf, tables, tablesOf, afterTurn, FmC, fmOf, runs, atRet, anyQ, _$_, !, by, move, look, store, forget, stop, from, of-opd, and-then, no-more, first, blocks, loops, again, exec, returns, returns-within, whole, agg, uint-vals, uint-tells, uint-makes, bool-vals, bool-tells, slice-vals, mut-slice-tells, shr-slice-tells, plain, cited}
+use Rattle.by_hand.proofs.Walk.{URA, Heap, Atoms, Given, Memory, Routine, Fun, SProp, Item, prop, Env, Tables, Val, Room, Is, Sq, Triple, Places, Ends, gone, kept-slice, Exit, finishes, proves, locals, envOf, lets-go, lose, var, part, counts, sets, resets, receives, relends, tests, whens, Asked, held, made, asks, asks-last, named-as, holding, twice, Nearer, nearer-wf, Turned as TurnedFrom, none, some, fullShare, named, w64, vint, vbool, givenOf, tables, tablesOf, afterTurn, FmC, fmOf, runs, atRet, anyQ, _$_, !, by, move, look, store, forget, stop, from, of-opd, and-then, no-more, first, blocks, loops, again, exec, returns, returns-within, whole, agg, uint-vals, uint-tells, uint-makes, bool-vals, bool-tells, slice-vals, mut-slice-tells, shr-slice-tells, plain, cited}
 use Rattle.state.specs.Walks.{walkOf}
 use Rattle.state.specs.declared.State.{State}
 use Rattle.state.proofs.State as S

@@ -20,7 +20,7 @@ use Rattle.edits.proofs.format.Format.Laws as Fo′
 use Rattle.tables.specs.Room.{Tables as Tables′, tables as tablesOf′}
 use Rattle.tables.specs.declared.Employer.{Employer}
 use Rattle.tables.proofs.Employer as E
-use Rattle.tables.proofs.Walk.{URA, Heap, Atoms, Given, Memory, Routine, Fun, SProp, Item, prop, Env, Tables, Val, Room, Is, Sq, Triple, Places, Ends, gone, kept-slice, Exit, finishes, proves, locals, envOf, lets-go, lose, var, part, counts, sets, resets, receives, relends, whens, Asked, held, made, asks, named-as, holding, twice, none, some, fullShare, named, w64, vint, vbool, givenOf, tables, tablesOf, FmC, fmOf, runs, atRet, _$_, !, by, move, look, lit, of-opd, and-then, no-more, returns, returns-within, agg, uint-makes, bool-vals, bool-tells, bool-makes, slice-vals, mut-slice-tells, shr-slice-tells, plain, cited}
+use Rattle.by_hand.proofs.Walk.{URA, Heap, Atoms, Given, Memory, Routine, Fun, SProp, Item, prop, Env, Tables, Val, Room, Is, Sq, Triple, Places, Ends, gone, kept-slice, Exit, finishes, proves, locals, envOf, lets-go, lose, var, part, counts, sets, resets, receives, relends, whens, Asked, held, made, asks, named-as, holding, twice, none, some, fullShare, named, w64, vint, vbool, givenOf, tables, tablesOf, FmC, fmOf, runs, atRet, _$_, !, by, move, look, lit, of-opd, and-then, no-more, returns, returns-within, agg, uint-makes, bool-vals, bool-tells, bool-makes, slice-vals, mut-slice-tells, shr-slice-tells, plain, cited}
 use Rattle.state.proofs.State as S
 use Rattle.state.proofs.State.Laws as S′
 use Rattle.step.specs.Steps.{Out, openStep}

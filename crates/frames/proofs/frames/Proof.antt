@@ -9,7 +9,7 @@ use denote.Struct.Laws as LL
 use Rattle.tables.specs.declared.Employer.{Employer}
 use Rattle.tables.proofs.Employer as T
 use Rattle.tables.proofs.Entries.{sliceOf, Shared}
-use Rattle.tables.proofs.Walk.{URA, Heap, Atoms, Given, Memory, Routine, Fun, SProp, Lft, Share, Env, Tables, Val, RefT, Room, Is, Sq, Triple, Places, Ends, gone, given-slice, Exit, finishes, proves, locals, envOf, lets-go, lose, var, counts, sets, resets, receives, relends, Asked, held, made, asks, named-as, holding, lends-again, comes-back, measures, none, some, fullShare, named, w64, vint, flft, givenOf, tables, tablesOf, FmC, fmOf, runs, atRet, ‵, _$_, !, by, move, look, of-opd, and-then, no-more, returns, uint-makes, sliceVal, slice-vals, MutSlice, mut-slice-tells, shr-slice-tells, plain, cited}
+use Rattle.by_hand.proofs.Walk.{URA, Heap, Atoms, Given, Memory, Routine, Fun, SProp, Lft, Share, Env, Tables, Val, RefT, Room, Is, Sq, Triple, Places, Ends, gone, given-slice, Exit, finishes, proves, locals, envOf, lets-go, lose, var, counts, sets, resets, receives, relends, Asked, held, made, asks, named-as, holding, lends-again, comes-back, measures, none, some, fullShare, named, w64, vint, flft, givenOf, tables, tablesOf, FmC, fmOf, runs, atRet, ‵, _$_, !, by, move, look, of-opd, and-then, no-more, returns, uint-makes, sliceVal, slice-vals, MutSlice, mut-slice-tells, shr-slice-tells, plain, cited}
 use Rattle.state.specs.Walks.{Walk, walkOf}
 use Rattle.state.specs.declared.State.{State}
 use Rattle.state.proofs.State as S

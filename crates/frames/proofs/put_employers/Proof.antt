@@ -13,7 +13,7 @@ use Rattle.tables.proofs.Employer as T
 use Rattle.tables.proofs.Employer.Laws as T′
 use Rattle.tables.proofs.Called.{entry-at}
 use Rattle.tables.proofs.Entries.{sliceOf, Shared}
-use Rattle.tables.proofs.Walk.{URA, Heap, Atoms, Given, Memory, Routine, Fun, SProp, Lft, Share, Fml, Item, Env, Tables, Val, RefT, Room, Sq, Triple, Places, Ends, gone, kept-slice, Exit, finishes, proves-given, locals, envOf, lets-go, lose, var, sets, receives, relends, tests, Asked, held, made, asks, named-as, holding, twice, Nearer, nearer-wf, Turned, lends-again, comes-back, none, some, fullShare, named, w64, vunit, vint, flft, id⊢, givenOf, tables, tablesOf, afterTurn, FmC, fmOf, runs, atRet, anyQ, ‵, _$_, !, by, move, rewrite, look, store, forget, stop, from, lit, unit-lit, of-opd, bin, and-then, no-more, assigns-last, first, blocks, loops, again, exec, returns, uint-vals, uint-tells, uint-makes, nothing-makes, sliceVal, slice-vals, MutSlice, mut-slice-tells, shr-slice-tells, plain, cited}
+use Rattle.by_hand.proofs.Walk.{URA, Heap, Atoms, Given, Memory, Routine, Fun, SProp, Lft, Share, Fml, Item, Env, Tables, Val, RefT, Room, Sq, Triple, Places, Ends, gone, kept-slice, Exit, finishes, proves-given, locals, envOf, lets-go, lose, var, sets, receives, relends, tests, Asked, held, made, asks, named-as, holding, twice, Nearer, nearer-wf, Turned, lends-again, comes-back, none, some, fullShare, named, w64, vunit, vint, flft, id⊢, givenOf, tables, tablesOf, afterTurn, FmC, fmOf, runs, atRet, anyQ, ‵, _$_, !, by, move, rewrite, look, store, forget, stop, from, lit, unit-lit, of-opd, bin, and-then, no-more, assigns-last, first, blocks, loops, again, exec, returns, uint-vals, uint-tells, uint-makes, nothing-makes, sliceVal, slice-vals, MutSlice, mut-slice-tells, shr-slice-tells, plain, cited}
 use Rattle.tables.proofs.list.entry_at.Symbol.{name as #entry-at, routine as entry-at-routine}
 use Rattle.tables.proofs.list.entry_at.Met as entry-at-met
 use Rattle.frames.specs.FrameLaws.{none-written, one-more}

@@ -15,7 +15,7 @@ use Rattle.edits.specs.declared.format.Format.{Format}
 use Rattle.edits.proofs.format.Format as Fo
 use Rattle.edits.proofs.format.Format.Laws as Fo′
 use Rattle.tables.proofs.Employer as T
-use Rattle.tables.proofs.Walk.{URA, Heap, Atoms, Given, Memory, Routine, Fun, SProp, Item, Env, Tables, Val, Room, Is, Sq, Triple, Places, Ends, gone, kept-slice, Exit, finishes, proves, locals, envOf, lets-go, lose, var, part, sets, receives, relends, relends-front, tests, Asked, held, made, asks, asks-last, unsaid, named-as, holding, Field, Nearer, nearer-wf, Turned, none, some, fullShare, named, w64, tyBool, vunit, givenOf, tables, tablesOf, afterTurn, FmC, fmOf, runs, atRet, anyQ, _$_, !, by, look, store, forget, stop, from, lit, unit-lit, of-opd, bin, and-then, no-more, first, blocks, loops, again, exec, returns, nothing-makes, slice-vals, mut-slice-tells, plain, cited}
+use Rattle.by_hand.proofs.Walk.{URA, Heap, Atoms, Given, Memory, Routine, Fun, SProp, Item, Env, Tables, Val, Room, Is, Sq, Triple, Places, Ends, gone, kept-slice, Exit, finishes, proves, locals, envOf, lets-go, lose, var, part, sets, receives, relends, relends-front, tests, Asked, held, made, asks, asks-last, unsaid, named-as, holding, Field, Nearer, nearer-wf, Turned, none, some, fullShare, named, w64, tyBool, vunit, givenOf, tables, tablesOf, afterTurn, FmC, fmOf, runs, atRet, anyQ, _$_, !, by, look, store, forget, stop, from, lit, unit-lit, of-opd, bin, and-then, no-more, first, blocks, loops, again, exec, returns, nothing-makes, slice-vals, mut-slice-tells, plain, cited}
 use Rattle.state.proofs.State as S
 use Rattle.state.proofs.State.Laws as S′
 use Rattle.frames.specs.declared.Framed.{Framed}

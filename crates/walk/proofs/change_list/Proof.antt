@@ -10,7 +10,7 @@ use Rattle.tables.specs.Tables.{wiped, noEmployer, opened, closed, closedAt}
 use Rattle.tables.proofs.Employer as T
 use Rattle.tables.proofs.Employer.Laws as T′
 use Rattle.tables.proofs.Called.{opened-entry, closed-entry, put, entry-at, zero-first}
-use Rattle.tables.proofs.Walk.{URA, Heap, Atoms, Given, Memory, Routine, Fun, SProp, Lft, Share, Env, Tables, Val, RefT, Room, Is, Sq, Triple, Places, Ends, gone, given-slice, Exit, finishes, proves, locals, envOf, lets-go, lose, var, part, word, counts, sets, receives, replaces, relends, Asked, held, made, asks, holding, named-as, lends-shared, shared-back, lends-again, comes-back, measures, none, some, fullShare, named, w64, vunit, vint, flft, givenOf, tables, tablesOf, FmC, fmOf, runs, atRet, ‵, _$_, !, by, look, unit-lit, of-opd, and-then, no-more, returns, uint-makes, nothing-makes, sliceVal, slice-vals, MutSlice, mut-slice-tells, plain, cited}
+use Rattle.by_hand.proofs.Walk.{URA, Heap, Atoms, Given, Memory, Routine, Fun, SProp, Lft, Share, Env, Tables, Val, RefT, Room, Is, Sq, Triple, Places, Ends, gone, given-slice, Exit, finishes, proves, locals, envOf, lets-go, lose, var, part, word, counts, sets, receives, replaces, relends, Asked, held, made, asks, holding, named-as, lends-shared, shared-back, lends-again, comes-back, measures, none, some, fullShare, named, w64, vunit, vint, flft, givenOf, tables, tablesOf, FmC, fmOf, runs, atRet, ‵, _$_, !, by, look, unit-lit, of-opd, and-then, no-more, returns, uint-makes, nothing-makes, sliceVal, slice-vals, MutSlice, mut-slice-tells, plain, cited}
 use Rattle.tables.proofs.list.opened_entry.Symbol.{name as #opened-entry, routine as opened-entry-routine}
 use Rattle.tables.proofs.list.opened_entry.Met as opened-entry-met
 use Rattle.tables.proofs.list.closed_entry.Symbol.{name as #closed-entry, routine as closed-entry-routine}

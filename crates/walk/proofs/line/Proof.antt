@@ -10,7 +10,7 @@ use Rattle.lines.specs.Lines.{firstLine}
 use Rattle.tables.specs.Room.{tables as tablesOf′}
 use Rattle.tables.specs.declared.Employer.{Employer}
 use Rattle.tables.proofs.Employer as T
-use Rattle.tables.proofs.Walk.{URA, Heap, Atoms, Given, Memory, Routine, Fun, SProp, Lft, Share, Env, Tables, Val, RefT, Room, Is, Sq, Triple, Places, Ends, gone, given-slice, Exit, finishes, proves, locals, envOf, lets-go, lose, var, receives, relends, Asked, held, made, asks, measures, none, some, named, w64, vint, flft, givenOf, tables, tablesOf, fmOf, runs, atRet, ‵, _$_, !, by, look, lit, and-then, no-more, returns, uint-makes, sliceVal, slice-vals, MutSlice, ShrSlice, mut-slice-tells, shr-slice-tells, plain, cited}
+use Rattle.by_hand.proofs.Walk.{URA, Heap, Atoms, Given, Memory, Routine, Fun, SProp, Lft, Share, Env, Tables, Val, RefT, Room, Is, Sq, Triple, Places, Ends, gone, given-slice, Exit, finishes, proves, locals, envOf, lets-go, lose, var, receives, relends, Asked, held, made, asks, measures, none, some, named, w64, vint, flft, givenOf, tables, tablesOf, fmOf, runs, atRet, ‵, _$_, !, by, look, lit, and-then, no-more, returns, uint-makes, sliceVal, slice-vals, MutSlice, ShrSlice, mut-slice-tells, shr-slice-tells, plain, cited}
 use Rattle.state.specs.Walks.{walkOf}
 use Rattle.state.specs.declared.State.{State}
 use Rattle.state.proofs.State as S

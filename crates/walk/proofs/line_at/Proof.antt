@@ -13,7 +13,7 @@ use Rattle.tables.specs.Tables.{isAmong, feinsOf}
 use Rattle.tables.specs.declared.Employer.{Employer}
 use Rattle.tables.proofs.Employer as T
 use Rattle.tables.proofs.Called.{has-fein}
-use Rattle.tables.proofs.Walk.{URA, Heap, Atoms, Given, Memory, Routine, Fun, SProp, Lft, Share, Env, Tables, Val, RefT, Room, Is, Sq, Triple, Places, Ends, gone, given-slice, Exit, finishes, proves, locals, envOf, lets-go, lose, var, part, word, counts, sets, receives, replaces, relends, Asked, held, made, asks, named-as, twice, lends-shared, shared-back, measures, none, some, fullShare, named, w64, vbool, vint, flft, givenOf, tables, tablesOf, FmC, fmOf, runs, atRet, ‵, _$_, !, by, move, look, forget, of-opd, and-then, no-more, returns, uint-vals, uint-tells, uint-makes, bool-makes, sliceVal, slice-vals, MutSlice, ShrSlice, mut-slice-tells, shr-slice-tells, plain, cited}
+use Rattle.by_hand.proofs.Walk.{URA, Heap, Atoms, Given, Memory, Routine, Fun, SProp, Lft, Share, Env, Tables, Val, RefT, Room, Is, Sq, Triple, Places, Ends, gone, given-slice, Exit, finishes, proves, locals, envOf, lets-go, lose, var, part, word, counts, sets, receives, replaces, relends, Asked, held, made, asks, named-as, twice, lends-shared, shared-back, measures, none, some, fullShare, named, w64, vbool, vint, flft, givenOf, tables, tablesOf, FmC, fmOf, runs, atRet, ‵, _$_, !, by, move, look, forget, of-opd, and-then, no-more, returns, uint-vals, uint-tells, uint-makes, bool-makes, sliceVal, slice-vals, MutSlice, ShrSlice, mut-slice-tells, shr-slice-tells, plain, cited}
 use Rattle.tables.proofs.list.has_fein.Symbol.{name as #has-fein, routine as has-fein-routine}
 use Rattle.tables.proofs.list.has_fein.Met as has-fein-met
 use Rattle.state.specs.Walks.{walkOf}

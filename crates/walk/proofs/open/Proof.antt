@@ -12,7 +12,7 @@ use Rattle.edits.proofs.Opening.Laws as O′
 use Rattle.tables.specs.Room.{tables as tablesOf′}
 use Rattle.tables.specs.declared.Employer.{Employer}
 use Rattle.tables.proofs.Employer as T
-use Rattle.tables.proofs.Walk.{URA, Heap, Atoms, Given, Memory, Routine, Fun, SProp, Lft, Share, Env, Tables, Val, RefT, Room, Is, Sq, Triple, Places, Ends, gone, given-slice, Exit, finishes, proves, locals, envOf, lets-go, lose, var, part, sets, receives, replaces, relends, Asked, held, made, asks, measures, none, some, named, flft, givenOf, tables, tablesOf, FmC, fmOf, runs, atRet, ‵, _$_, !, by, move, look, of-opd, and-then, no-more, returns, sliceVal, slice-vals, MutSlice, mut-slice-tells, plain, cited}
+use Rattle.by_hand.proofs.Walk.{URA, Heap, Atoms, Given, Memory, Routine, Fun, SProp, Lft, Share, Env, Tables, Val, RefT, Room, Is, Sq, Triple, Places, Ends, gone, given-slice, Exit, finishes, proves, locals, envOf, lets-go, lose, var, part, sets, receives, replaces, relends, Asked, held, made, asks, measures, none, some, named, flft, givenOf, tables, tablesOf, FmC, fmOf, runs, atRet, ‵, _$_, !, by, move, look, of-opd, and-then, no-more, returns, sliceVal, slice-vals, MutSlice, mut-slice-tells, plain, cited}
 use Rattle.step.specs.Steps.{outOf, openStep}
 use Rattle.step.proofs.Answer as An
 use Rattle.step.proofs.Answer.Laws as An′

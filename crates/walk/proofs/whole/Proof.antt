@@ -15,7 +15,7 @@ use Rattle.edits.proofs.Opening.Laws as O′
 use Rattle.tables.specs.Room.{tables as tablesOf′}
 use Rattle.tables.specs.declared.Employer.{Employer}
 use Rattle.tables.proofs.Employer as T
-use Rattle.tables.proofs.Walk.{URA, Heap, Atoms, Given, Memory, Routine, Fun, SProp, Lft, Share, Item, Env, Tables, Val, RefT, Room, Is, Sq, Triple, Places, Ends, gone, given-slice, Exit, finishes, proves, locals, envOf, lets-go, lose, var, part, counts, sets, resets, receives, relends, tests, Asked, held, made, asks, asks-last, named-as, holding, twice, Nearer, nearer-wf, Turned, lends-again, comes-back, measures, none, some, fullShare, named, w64, vint, flft, givenOf, tables, tablesOf, afterTurn, FmC, fmOf, runs, atRet, anyQ, ‵, _$_, !, by, move, look, store, forget, stop, from, lit, of-opd, bin, and-then, no-more, first, blocks, loops, again, exec, returns, whole, uint-makes, sliceVal, slice-vals, MutSlice, ShrSlice, mut-slice-tells, shr-slice-tells, plain, cited}
+use Rattle.by_hand.proofs.Walk.{URA, Heap, Atoms, Given, Memory, Routine, Fun, SProp, Lft, Share, Item, Env, Tables, Val, RefT, Room, Is, Sq, Triple, Places, Ends, gone, given-slice, Exit, finishes, proves, locals, envOf, lets-go, lose, var, part, counts, sets, resets, receives, relends, tests, Asked, held, made, asks, asks-last, named-as, holding, twice, Nearer, nearer-wf, Turned, lends-again, comes-back, measures, none, some, fullShare, named, w64, vint, flft, givenOf, tables, tablesOf, afterTurn, FmC, fmOf, runs, atRet, anyQ, ‵, _$_, !, by, move, look, store, forget, stop, from, lit, of-opd, bin, and-then, no-more, first, blocks, loops, again, exec, returns, whole, uint-makes, sliceVal, slice-vals, MutSlice, ShrSlice, mut-slice-tells, shr-slice-tells, plain, cited}
 use Rattle.state.specs.Walks.{walkOf}
 use Rattle.state.specs.declared.State.{State}
 use Rattle.state.proofs.State as S

@@ -10,10 +10,10 @@ use Rattle.tables.specs.Tables.{noEmployer}
 use Rattle.tables.proofs.Employer as T
 use Rattle.tables.proofs.Employer.Laws as T′
 use Rattle.tables.proofs.Entries.{sliceOf, Shared, vals, at-rest, scaled, looks-entry, shuts-entry, points}
-use Rattle.tables.proofs.Walk.{URA, Heap, Atoms, Given, Memory, Routine, Fun, SProp, Lft, Share, Env, Tables, Val, RefT, Room, Is, Sq, Places, Ends, gone, Exit}
-use Rattle.tables.proofs.Walk.{finishes, proves, locals, envOf, lets-go, lose, var, counts, refers, sets, whens, none, some, named, w64, vint, flft, givenOf}
-use Rattle.tables.proofs.Walk.{tables, tablesOf, prop, runs, atRet, ‵, _$_, !, by, look, look-raw, stop, hop, from, load, lit, of-opd, bin, and-then, no-more, returns}
-use Rattle.tables.proofs.Walk.{returns-within, agg, uint-vals, uint-tells, slice-vals, shr-slice-tells}
+use Rattle.by_hand.proofs.Walk.{URA, Heap, Atoms, Given, Memory, Routine, Fun, SProp, Lft, Share, Env, Tables, Val, RefT, Room, Is, Sq, Places, Ends, gone, Exit}
+use Rattle.by_hand.proofs.Walk.{finishes, proves, locals, envOf, lets-go, lose, var, counts, refers, sets, whens, none, some, named, w64, vint, flft, givenOf}
+use Rattle.by_hand.proofs.Walk.{tables, tablesOf, prop, runs, atRet, ‵, _$_, !, by, look, look-raw, stop, hop, from, load, lit, of-opd, bin, and-then, no-more, returns}
+use Rattle.by_hand.proofs.Walk.{returns-within, agg, uint-vals, uint-tells, slice-vals, shr-slice-tells}
 use Rattle.tables.proofs.list.entry_at as f
 use Rattle.tables.proofs.list.entry_at.Code as code
 use Rattle.tables.proofs.list.entry_at.Key.{name as #entry-at}

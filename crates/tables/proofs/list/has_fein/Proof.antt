@@ -17,12 +17,12 @@ use Rattle.tables.proofs.Employer as T
 use Rattle.tables.proofs.Employer.Laws as T′
 use Rattle.tables.proofs.Called.{lesser}
 use Rattle.tables.proofs.Entries.{sliceOf, Shared, scaled, looks-entry, shuts-entry, points}
-use Rattle.tables.proofs.Walk.{URA, Heap, Atoms, Given, Memory, Routine, Fun, SProp, Lft, Share, Env, Tables, Item, Val, RefT, Room, Sq, Triple, Places}
-use Rattle.tables.proofs.Walk.{Ends, gone, Exit, finishes, proves, locals, envOf, lets-go, lose, var, counts, refers, sets, resets, receives, tests, Asked, made, asks, words}
-use Rattle.tables.proofs.Walk.{Nearer, nearer-wf, Turned, none, some, fullShare, named, w64, tyBool, vbool, vint, fat, flft, spotOf, afterTurn, givenOf, tables}
-use Rattle.tables.proofs.Walk.{tablesOf, fmOf, runs, atRet, anyQ, ‵, _$_, !, by, rewrite, look, store, forget, stop, hop, fld, from, load, lit, false-lit}
-use Rattle.tables.proofs.Walk.{of-opd, bin, and-then, no-more, assigns-last, first, blocks, loops, again, exec, returns, whole, sub, look-in, uint-vals}
-use Rattle.tables.proofs.Walk.{uint-tells, uint-makes, bool-makes, slice-vals, shr-slice-tells, cited}
+use Rattle.by_hand.proofs.Walk.{URA, Heap, Atoms, Given, Memory, Routine, Fun, SProp, Lft, Share, Env, Tables, Item, Val, RefT, Room, Sq, Triple, Places}
+use Rattle.by_hand.proofs.Walk.{Ends, gone, Exit, finishes, proves, locals, envOf, lets-go, lose, var, counts, refers, sets, resets, receives, tests, Asked, made, asks, words}
+use Rattle.by_hand.proofs.Walk.{Nearer, nearer-wf, Turned, none, some, fullShare, named, w64, tyBool, vbool, vint, fat, flft, spotOf, afterTurn, givenOf, tables}
+use Rattle.by_hand.proofs.Walk.{tablesOf, fmOf, runs, atRet, anyQ, ‵, _$_, !, by, rewrite, look, store, forget, stop, hop, fld, from, load, lit, false-lit}
+use Rattle.by_hand.proofs.Walk.{of-opd, bin, and-then, no-more, assigns-last, first, blocks, loops, again, exec, returns, whole, sub, look-in, uint-vals}
+use Rattle.by_hand.proofs.Walk.{uint-tells, uint-makes, bool-makes, slice-vals, shr-slice-tells, cited}
 use Rattle.tables.proofs.lesser.Met as lesser-met
 use Rattle.tables.proofs.lesser.Symbol.{name as #lesser, routine as lesser-routine}
 use Rattle.tables.proofs.list.has_fein as f

@@ -10,11 +10,11 @@ use Rattle.tables.specs.declared.Employer.{Employer}
 use Rattle.tables.proofs.Employer as T
 use Rattle.tables.proofs.Employer.Laws as T′
 use Rattle.tables.proofs.Entries.{sliceOf, Owned, vals, scaled, opens-entry, closes-entry, points}
-use Rattle.tables.proofs.Walk.{URA, Heap, Atoms, Given, Memory, Routine, Fun, SProp, Lft, Share, Env, Tables, Val, RefT, Room, Is, Sq, Places, Ends, gone}
-use Rattle.tables.proofs.Walk.{kept-slice, Exit, finishes, proves, locals, envOf, lets-go, lose, var, counts, refers, sets, none, some, named, w64, vunit}
-use Rattle.tables.proofs.Walk.{vbool, vint, flft, givenOf, tables, tablesOf, runs, atRet, ‵, _$_, !, by, look, store-raw, forget, stop, hop, from, lit, unit-lit, of-opd}
-use Rattle.tables.proofs.Walk.{bin, assigns-last, first, branches, skips, exec, returns, uint-vals, uint-tells, nothing-makes, slice-vals}
-use Rattle.tables.proofs.Walk.{mut-slice-tells, plain}
+use Rattle.by_hand.proofs.Walk.{URA, Heap, Atoms, Given, Memory, Routine, Fun, SProp, Lft, Share, Env, Tables, Val, RefT, Room, Is, Sq, Places, Ends, gone}
+use Rattle.by_hand.proofs.Walk.{kept-slice, Exit, finishes, proves, locals, envOf, lets-go, lose, var, counts, refers, sets, none, some, named, w64, vunit}
+use Rattle.by_hand.proofs.Walk.{vbool, vint, flft, givenOf, tables, tablesOf, runs, atRet, ‵, _$_, !, by, look, store-raw, forget, stop, hop, from, lit, unit-lit, of-opd}
+use Rattle.by_hand.proofs.Walk.{bin, assigns-last, first, branches, skips, exec, returns, uint-vals, uint-tells, nothing-makes, slice-vals}
+use Rattle.by_hand.proofs.Walk.{mut-slice-tells, plain}
 use Rattle.tables.proofs.list.put as f
 use Rattle.tables.proofs.list.put.Code as code
 use Rattle.tables.proofs.list.put.Code.Mir as mirs

@@ -15,12 +15,12 @@ use Rattle.tables.proofs.Employer as T
 use Rattle.tables.proofs.Employer.Laws as T′
 use Rattle.tables.proofs.Called.{lesser}
 use Rattle.tables.proofs.Entries.{sliceOf, Owned, at-rest, scaled, opens-entry, closes-entry, points}
-use Rattle.tables.proofs.Walk.{URA, Heap, Atoms, Given, Memory, Routine, Fun, SProp, Lft, Share, Env, Tables, Item, Val, RefT, Room, Sq, Triple, Places}
-use Rattle.tables.proofs.Walk.{Ends, gone, kept-slice, Exit, finishes, proves, locals, envOf, lets-go, lose, var, counts, refers, sets, receives, tests, Asked, made}
-use Rattle.tables.proofs.Walk.{asks, holding, Nearer, nearer-wf, Turned, none, some, named, w64, vunit, vint, flft, afterTurn, givenOf, tables, tablesOf, fmOf}
-use Rattle.tables.proofs.Walk.{runs, atRet, anyQ, ‵, _$_, !, by, rewrite, look, store, store-raw, forget, stop, hop, from, lit, unit-lit, of-opd, bin, and-then}
-use Rattle.tables.proofs.Walk.{no-more, assigns, assigns-last, first, blocks, loops, again, exec, returns, agg, uint-vals, uint-tells, uint-makes}
-use Rattle.tables.proofs.Walk.{nothing-makes, slice-vals, mut-slice-tells, plain, cited}
+use Rattle.by_hand.proofs.Walk.{URA, Heap, Atoms, Given, Memory, Routine, Fun, SProp, Lft, Share, Env, Tables, Item, Val, RefT, Room, Sq, Triple, Places}
+use Rattle.by_hand.proofs.Walk.{Ends, gone, kept-slice, Exit, finishes, proves, locals, envOf, lets-go, lose, var, counts, refers, sets, receives, tests, Asked, made}
+use Rattle.by_hand.proofs.Walk.{asks, holding, Nearer, nearer-wf, Turned, none, some, named, w64, vunit, vint, flft, afterTurn, givenOf, tables, tablesOf, fmOf}
+use Rattle.by_hand.proofs.Walk.{runs, atRet, anyQ, ‵, _$_, !, by, rewrite, look, store, store-raw, forget, stop, hop, from, lit, unit-lit, of-opd, bin, and-then}
+use Rattle.by_hand.proofs.Walk.{no-more, assigns, assigns-last, first, blocks, loops, again, exec, returns, agg, uint-vals, uint-tells, uint-makes}
+use Rattle.by_hand.proofs.Walk.{nothing-makes, slice-vals, mut-slice-tells, plain, cited}
 use Rattle.tables.proofs.lesser.Met as lesser-met
 use Rattle.tables.proofs.lesser.Symbol.{name as #lesser, routine as lesser-routine}
 use Rattle.tables.proofs.list.zero_first as f

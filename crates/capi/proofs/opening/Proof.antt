@@ -1,7 +1,0 @@
--- `capi::opening` meets its contract.
-use borrow.Author.Needs.{needs}
-use Rattle.capi.proofs.opening.Statement.{statement}
-use Rattle.capi.proofs.opening.Tie as tie
-
-pub opening-spec : {M : Type 1} → statement M
-opening-spec = tie.close (tie.spec (λ c κs. search needs) (λ c. rw (c .format-of .ensures)))

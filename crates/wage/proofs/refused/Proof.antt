@@ -1,0 +1,12 @@
+-- `wage::refused` meets its contract.
+use borrow.Author.Needs.{needs}
+use Rattle.wage.proofs.refused.Statement.{statement}
+use Rattle.wage.proofs.refused.Tie as tie
+
+returns : tie.Need-returns
+returns c = rw (c .before .before .number-of .ensures)
+
+pub refused-spec : {M : Type 1} → statement M
+refused-spec =
+    tie.close
+    (tie.spec (λ c κs. search needs) (λ c. search needs) (λ c. search needs) (λ c. search needs) returns)
