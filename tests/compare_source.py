@@ -317,7 +317,7 @@ def compare_reasons(read, paper, later):
     told, given = code_reasons(read("crates/reason/src/lib.rt"))
     same("the numbers of the reasons are those of document 01 and of the requests that are built", sorted({*paper_numbers(paper), *later}), sorted(given.values()))
     same("each reason's comment has its number", sorted(given.items()), sorted(told.items()))
-    specs = re.findall(r"\nnumberOf (\w+) = (\d+)", read("crates/reason/specs/Numbers.antt"))
+    specs = re.findall(r"\nnumberOf (\w+) = (\d+)", read("crates/reason/specs/ReasonNumbers.antt"))
     same("the numbers in specs are those of the code", sorted(given.items()), sorted((name, int(n)) for name, n in specs))
 
 

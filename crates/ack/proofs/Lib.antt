@@ -1,3 +1,3 @@
 pub mod Called
-pub mod Lent
-pub mod Values
+pub mod TurnLent
+pub mod TurnValues

@@ -6,8 +6,8 @@ pub mod TurnLaws
 pub mod Program
 pub mod ProgramLaws
 pub mod Acknowledgement
-pub mod Means
-pub mod Manual
-pub mod Room
+pub mod ProgramMeans
+pub mod ManualFrames
+pub mod BufferRoom
 pub mod Once
 pub mod Keep

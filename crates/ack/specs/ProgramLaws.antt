@@ -16,14 +16,14 @@ use Rattle.number.specs.NumberLaws.{number-in-front}
 use Rattle.number.specs.Numbers.{numberIn}
 use Rattle.lines.specs.Lines.{firstLine}
 use Rattle.edits.specs.declared.format.Format.{Format}
-use Rattle.record.specs.Formats.{shapeOf, lawfulOf}
+use Rattle.record.specs.ShapeOf.{shapeOf, lawfulOf}
 use Rattle.tables.specs.Room.{Tables}
 use Rattle.state.specs.Walks.{Walk}
 use Rattle.step.specs.Steps.{Out, openStep, lineStep, endStep}
 use Rattle.walk.specs.CallLaws.{pieces-are-whole}
 use Rattle.walk.specs.Calls.{calls}
-use Rattle.walk.specs.RunLaws.{lines-carry, refused-alone, some-taken, none-taken, run-within, run-next}
-use Rattle.walk.specs.Runs.{linesStep}
+use Rattle.walk.specs.LineAndRunLaws.{lines-carry, refused-alone, some-taken, none-taken, run-within, run-next}
+use Rattle.walk.specs.LineAndRun.{linesStep}
 use Rattle.walk.specs.WholeLaws.{all, calls-end, calls-refused, calls-taken, taken-within, loop-done}
 use Rattle.ack.specs.Turns.{Progress, waiting, walking, finished, Turn, ends, goesOn, longestLine, linesTurn, headerQuarter, headerOpening, turn}
 use Rattle.ack.specs.Program.{turns, input}

@@ -12,12 +12,12 @@ use borrow.Author.Tests.{ltb-true, ltb-false, eqb-false}
 use Rattle.laws.specs.Choice.{if_then_else_, both-hold}
 use Rattle.laws.specs.Lists.{behind}
 use Rattle.tables.specs.Room.{Tables}
-use Rattle.tables.specs.Steps.{drop-least}
+use Rattle.tables.specs.TableSteps.{drop-least}
 use Rattle.state.specs.Walks.{Walk, walkOf}
 use Rattle.state.specs.declared.State.{State}
 use Rattle.step.specs.Steps.{Out, outOf, endStep}
 use Rattle.step.specs.declared.Answer.{Answer}
-use Rattle.walk.specs.Runs.{linesStep}
+use Rattle.walk.specs.LineAndRun.{linesStep}
 use Rattle.ack.specs.Answers.{turnedBy}
 use Rattle.ack.specs.Places.{takesLine, placeBehind}
 use Rattle.ack.specs.Turns.{Turn, ends, goesOn, longestLine, linesTurn}

@@ -15,7 +15,7 @@ use Rattle.edits.specs.declared.format.Format.{Format}
 use Rattle.shape.specs.After.{noQuarter}
 use Rattle.state.specs.Walks.{Walk}
 use Rattle.step.specs.Steps.{Out, openStep, endStep}
-use Rattle.walk.specs.Runs.{linesStep}
+use Rattle.walk.specs.LineAndRun.{linesStep}
 
 -- "Input: six digits YYYYMM of the last closed quarter and LF (else 70; not counted as a line), then the file." What is no header is read as no quarter, which
 -- the opening refuses with 70.

@@ -15,19 +15,19 @@ use Rattle.edits.specs.declared.format.Format.{Format}
 use Rattle.edits.specs.declared.Phase.the-variants.{BeforeA, EOpen}
 use Rattle.shape.specs.Blot.{blot-keeps}
 use Rattle.shape.specs.Hidden.{blot}
-use Rattle.record.specs.Formats.{shapeOf}
+use Rattle.record.specs.ShapeOf.{shapeOf}
 use Rattle.tables.specs.Room.{Room, Tables, roomOf}
 use Rattle.meaning.specs.Meaning.{meaning}
 use Rattle.step.specs.Steps.{Out}
 use Rattle.walk.specs.Calls.{Lending, walked, wholeFile}
-use Rattle.walk.specs.Means.{walk-means}
+use Rattle.walk.specs.WalkMeans.{walk-means}
 use Rattle.frames.specs.Frames.{framing}
 use Rattle.ack.specs.Acknowledgement.{programRoom, fileFrames, acknowledgement}
 use Rattle.ack.specs.ProgramLaws.{header-held}
 use Rattle.ack.specs.Turns.{headerSize, headerOpening}
 use Rattle.alike.specs.Alike.{Alike, AlikeLines}
 use Rattle.alike.specs.Level.{Level, shut, level-same}
-use Rattle.alike.specs.Lines.{Same, alike-ends}
+use Rattle.alike.specs.LineByLine.{Same, alike-ends}
 
 -- Before the first line there is no record.
 level-none : Level [] []

@@ -6,7 +6,7 @@ use mathlib.Core.List.{List, _∷_}
 use mathlib.Core.Path.{_≡_, refl, sym, ap, _∙_}
 use native.Mathlib.Omega.{arith}
 use lib.ListN.{getD, replicate}
-use Rattle.lines.specs.Hidden.{hiddenIn, hidden, EqualBut}
+use Rattle.lines.specs.HiddenPlaces.{hiddenIn, hidden, EqualBut}
 use Rattle.lines.specs.Lines.{isEnd, textOf, endOf, linesFrom, joined}
 use Rattle.chars.specs.Characters.{capitalOf, capitals}
 use Rattle.shape.specs.Hidden.{isOfEmployee, blotFrom}

@@ -13,7 +13,7 @@ use Rattle.chars.specs.Columns.{isFine}
 use Rattle.edits.specs.Edit.{firstBroken}
 use Rattle.pfml.specs.Employees.{personalEdits}
 use Rattle.pfml.specs.Format.{pfmlShape}
-use Rattle.pfml.specs.Own.{meets-own}
+use Rattle.pfml.specs.OwnPermitted.{meets-own}
 use Rattle.alike.specs.Alike.{blotted, employees, under, employers, AllMeet, isZero, repeatsAfter, repeats, wagesOf, Alike}
 use Rattle.alike.specs.OrderedLaws.{no-seconds}
 

@@ -2,7 +2,7 @@ pub mod Alike
 pub mod Level
 pub mod Rest
 pub mod Onward
-pub mod Lines
+pub mod LineByLine
 pub mod Employee
 pub mod Ordered
 pub mod OrderedLaws

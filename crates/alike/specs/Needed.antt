@@ -5,7 +5,7 @@ use mathlib.Core.Bool.{true}
 use mathlib.Core.List.{List, [], _∷_}
 use mathlib.Core.Path.{_≡_, refl, sym, _∙_}
 use native.Mathlib.Omega.{arith}
-use Rattle.reason.specs.Numbers.{Notice, notice}
+use Rattle.reason.specs.ReasonNumbers.{Notice, notice}
 use Rattle.lines.specs.Lines.{joined}
 use Rattle.edits.specs.Edit.{firstBroken}
 use Rattle.shape.specs.Hidden.{blotFrom}

@@ -19,7 +19,7 @@ use Rattle.shape.specs.declared.EmployerOn.{EmployerOn}
 use Rattle.shape.specs.declared.Said.{Said}
 use Rattle.shape.specs.declared.Said.the-variants.{OfA, OfE, OfS, OfT, OfF, OfNone}
 use Rattle.tables.specs.Laws.{among-none, among-append}
-use Rattle.tables.specs.Steps.{among-more}
+use Rattle.tables.specs.TableSteps.{among-more}
 use Rattle.tables.specs.Tables.{isAmong}
 use Rattle.shape.specs.After.{andId}
 use Rattle.meaning.specs.Before.{idsUnder}

@@ -2,13 +2,13 @@
 use Prim.Native.Nat.{ℕ}
 use mathlib.Core.List.{List, map}
 use mathlib.Core.Path.{_≡_}
-use Rattle.lines.specs.Hidden.{EqualBut}
+use Rattle.lines.specs.HiddenPlaces.{EqualBut}
 use Rattle.lines.specs.Lines.{linesOf}
 use Rattle.chars.specs.Characters.{isPermitted}
 use Rattle.edits.specs.declared.format.Format.the-variants.{Pfml}
 use Rattle.shape.specs.Hidden.{isOfEmployee}
 use Rattle.shape.specs.Shape.{Shape}
-use Rattle.record.specs.Formats.{shapeOf}
+use Rattle.record.specs.ShapeOf.{shapeOf}
 use Rattle.alike.specs.Alike.{employees, employers, AllMeet, isZero, repeats, wagesOf, secondsOf}
 
 module _ (s : Shape) where

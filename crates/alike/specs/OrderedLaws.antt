@@ -7,8 +7,8 @@ use native.Mathlib.Omega.{arith}
 use lib.ListN.{length, getD}
 use Rattle.laws.specs.Choice.{both-hold}
 use Rattle.lines.specs.Changed.{changed-lines}
-use Rattle.lines.specs.Hidden.{MayHold}
-use Rattle.lines.specs.HiddenLaws.{equal-changed, changed-equal}
+use Rattle.lines.specs.HiddenPlaces.{MayHold}
+use Rattle.lines.specs.HiddenPlaceLaws.{equal-changed, changed-equal}
 use Rattle.lines.specs.Lines.{Line, linesOf, joined}
 use Rattle.chars.specs.Characters.{isPermitted, capitals}
 use Rattle.calendar.specs.declared.Quarter.{Quarter}
@@ -18,8 +18,8 @@ use Rattle.shape.specs.Blot.{blot-keeps, blot-hides, permitted-no-end}
 use Rattle.shape.specs.Hidden.{isEmployee, hidesOn, isOfEmployee, blot}
 use Rattle.shape.specs.Lawful.{Lawful}
 use Rattle.shape.specs.Shape.{Shape}
-use Rattle.pfml.specs.Lawful.{no-second}
-use Rattle.record.specs.Formats.{shapeOf, lawfulOf}
+use Rattle.pfml.specs.PfmlLawful.{no-second}
+use Rattle.record.specs.ShapeOf.{shapeOf, lawfulOf}
 use Rattle.tables.specs.Room.{Tables}
 use Rattle.walk.specs.Calls.{Lending, walked}
 use Rattle.ack.specs.Acknowledgement.{acknowledgement}

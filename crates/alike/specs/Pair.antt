@@ -6,14 +6,14 @@ use mathlib.Core.List.{List, [], _∷_, _++_}
 use mathlib.Core.Path.{_≡_, refl, ap}
 use native.Mathlib.Omega.{arith}
 use lib.ListN.{getD, take, drop}
-use Rattle.laws.specs.Text.{bytes}
+use Rattle.laws.specs.Spelling.{bytes}
 use Rattle.lines.specs.Lines.{joined}
 use Rattle.edits.specs.Edit.{firstBroken}
 use Rattle.calendar.specs.declared.Quarter.{Quarter}
 use Rattle.edits.specs.Formats.{openingWith}
 use Rattle.edits.specs.declared.format.Format.the-variants.{Pfml}
 use Rattle.pfml.specs.Format.{pfmlShape}
-use Rattle.pfml.specs.Lawful.{pfml-lawful}
+use Rattle.pfml.specs.PfmlLawful.{pfml-lawful}
 use Rattle.shape.specs.Hidden.{blotFrom}
 use Rattle.tables.specs.Room.{Room}
 use Rattle.meaning.specs.Meaning.{accepted, meaning}

@@ -30,7 +30,7 @@ use Rattle.write.specs.Records.{recordOf}
 use Rattle.build.specs.Building.{partOf, building}
 use Rattle.build.specs.FillLaws.{padded-is}
 use Rattle.build.specs.StandLaws.{Stands, each-at, record-stands, blank-columns, none-read}
-use Rattle.build.specs.TextLaws.{only-blanks}
+use Rattle.build.specs.BuiltTextLaws.{only-blanks}
 use Rattle.build.specs.Theorems.{amount-only, known-letters, Built, built-slice, built-passes, field-read-back}
 use Rattle.build.specs.Values.{amount, none, noAccount, formOf, Filled, formIn, fillRows, fillRecord, trimmed, textIn, amountIn, readBy, asRead}
 use Rattle.build.specs.declared.form.Form.{Form}

@@ -5,13 +5,13 @@ use mathlib.Core.Path.{_≡_, sym, _∙_}
 use lib.ListN.{length}
 use borrow.Author.Tests.{eq-eqb, ne-eqb}
 use Rattle.laws.specs.Finding.{Finding, fine, broken}
-use Rattle.reason.specs.Numbers.{notice}
+use Rattle.reason.specs.ReasonNumbers.{notice}
 use Rattle.chars.specs.Characters.{capitals}
 use Rattle.text.specs.Put.{putText}
 use Rattle.text.specs.PutLaws.{put-all}
 use Rattle.edits.specs.Edit.{firstBroken}
 use Rattle.edits.specs.EditLaws.{first-cons}
-use Rattle.pfml.specs.Kinds.{kindOf, marksOf}
+use Rattle.pfml.specs.Kinds.{kindOf, landmarksOf}
 use Rattle.write.specs.Writing.{noticeIn, writtenBy}
 use Rattle.write.specs.declared.Wrote.{Wrote}
 use Rattle.write.specs.declared.Wrote.the-variants.{Record}
@@ -27,8 +27,8 @@ module _ (letter : ℕ) (values texts out : List ℕ) where
 
   -- The record's line as the fields were put in, and what its edits find.
   module _ (long : length out ≡ 290) (line : List ℕ) (is : line ≡ padded (fillRecord letter values texts)) (found : Finding)
-      (finds : found ≡ firstBroken (editsOfAll (marksOf (kindOf letter)) (capitals line) (fillRecord letter values texts))) where
-    finds-in : firstBroken (editsOfAll (marksOf (kindOf letter)) (padded (fillRecord letter values texts)) (fillRecord letter values texts)) ≡ found
+      (finds : found ≡ firstBroken (editsOfAll (landmarksOf (kindOf letter)) (capitals line) (fillRecord letter values texts))) where
+    finds-in : firstBroken (editsOfAll (landmarksOf (kindOf letter)) (padded (fillRecord letter values texts)) (fillRecord letter values texts)) ≡ found
     finds-in = sym (finds ∙ rw (is, padded-read))
 
     pub turned-away : (wrote : Wrote) (column number : ℕ) → found ≡ broken column number → noticeIn wrote ≡ notice number 0 column

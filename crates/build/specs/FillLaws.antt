@@ -15,7 +15,7 @@ use Rattle.chars.specs.Characters.{capitals}
 use Rattle.chars.specs.CharacterLaws.{capitals-length, capitals-again}
 use Rattle.chars.specs.Columns.{widthOf, everyColumn, unless}
 use Rattle.chars.specs.declared.columns.Allowed.the-variants.{Permitted}
-use Rattle.laws.specs.Text.{bytes}
+use Rattle.laws.specs.Spelling.{bytes}
 use Rattle.field.specs.Classes.{classOf}
 use Rattle.field.specs.ClassTests.{classTest}
 use Rattle.field.specs.declared.class.Class.{Class}
@@ -23,8 +23,8 @@ use Rattle.pfml_fields.specs.Fields.{classIn, firstIn, lastIn, noRow}
 use Rattle.edits.specs.Edit.{firstBroken}
 use Rattle.edits.specs.EditLaws.{first-none, first-cons, first-append}
 use Rattle.edits.specs.Tests.{ownRest}
-use Rattle.edits.specs.Parts.{Wide, own-parts}
-use Rattle.edits.specs.declared.Marks.{Marks}
+use Rattle.edits.specs.FieldParts.{Wide, own-parts}
+use Rattle.edits.specs.declared.Landmarks.{Landmarks}
 use Rattle.text.specs.Put.{blanks}
 use Rattle.write.specs.PartLaws.{puts-keep, put-none, put-first}
 use Rattle.write.specs.Records.{put, putAll, recordOf}
@@ -107,15 +107,15 @@ padded-length fields =
     capitals-length (recordOf (map partOf fields)) ∙ puts-keep (map partOf fields) (blanks 290) ∙ length-replicate {A = ℕ} 290 0x20
 
 -- ---- the edits
-module _ (marks : Marks) (line : List ℕ) where
+module _ (landmarks : Landmarks) (line : List ℕ) where
   -- A field's edits in order.
   pub filled-parts : (field : Filled) → Wide (field .class) (field .first) (field .last)
-      → firstBroken (filledEdits marks line field)
+      → firstBroken (filledEdits landmarks line field)
       ≡ orElse (unless (fitsIn (widthOf (field .first) (field .last)) (field .value)) (field .first) 85)
       (orElse (everyColumn Permitted line (field .first) (field .last))
-      (orElse (classTest (field .class) line (field .first) (field .last)) (ownRest marks (bytes "PFML") (field .class) line (field .first) (field .last))))
+      (orElse (classTest (field .class) line (field .first) (field .last)) (ownRest landmarks (bytes "PFML") (field .class) line (field .first) (field .last))))
   filled-parts field wide =
-      rw (first-cons, first-cons, own-parts marks (bytes "PFML") (field .class) line (field .first) (field .last) wide)
+      rw (first-cons, first-cons, own-parts landmarks (bytes "PFML") (field .class) line (field .first) (field .last) wide)
 
   -- As a test finds them, one after the other.
   module _ (letter : ℕ) (row : List ℕ) (entry : ℕ) (texts : List ℕ) (class : Class) (form : Form) (width : ℕ) (fits : Bool)
@@ -124,19 +124,19 @@ module _ (marks : Marks) (line : List ℕ) where
     fit-is : fits ≡ fitsIn (widthOf (firstIn row) (lastIn row)) (valueBy (formIn row) letter entry texts)
     fit-is = tested ∙ rw (measured, formed, named)
 
-    pub too-long : fits ≡ false → firstBroken (filledEdits marks line (filled letter row entry texts)) ≡ broken (firstIn row) 85
+    pub too-long : fits ≡ false → firstBroken (filledEdits landmarks line (filled letter row entry texts)) ≡ broken (firstIn row) 85
     too-long e = filled-parts (filled letter row entry texts) wide ∙ rw (sym fit-is ∙ e)
 
     pub bad-character : fits ≡ true → (column number : ℕ) → everyColumn Permitted line (firstIn row) (lastIn row) ≡ broken column number
-        → firstBroken (filledEdits marks line (filled letter row entry texts)) ≡ broken column number
+        → firstBroken (filledEdits landmarks line (filled letter row entry texts)) ≡ broken column number
     bad-character e column number hit = filled-parts (filled letter row entry texts) wide ∙ rw (sym fit-is ∙ e, hit)
 
     pub own-then : fits ≡ true → everyColumn Permitted line (firstIn row) (lastIn row) ≡ fine
-        → firstBroken (filledEdits marks line (filled letter row entry texts))
-        ≡ orElse (classTest class line (firstIn row) (lastIn row)) (ownRest marks (bytes "PFML") class line (firstIn row) (lastIn row))
+        → firstBroken (filledEdits landmarks line (filled letter row entry texts))
+        ≡ orElse (classTest class line (firstIn row) (lastIn row)) (ownRest landmarks (bytes "PFML") class line (firstIn row) (lastIn row))
     own-then e passed = filled-parts (filled letter row entry texts) wide ∙ rw (sym fit-is ∙ e, passed, named)
 
-  pub edits-done : (fields : List Filled) → fields ≡ [] → firstBroken (editsOfAll marks line fields) ≡ fine
+  pub edits-done : (fields : List Filled) → fields ≡ [] → firstBroken (editsOfAll landmarks line fields) ≡ fine
   unfolding editsOfAll
   edits-done fields e = rw e first-none
 
@@ -149,21 +149,21 @@ module _ (letter : ℕ) (rows : List (List ℕ)) (values texts : List ℕ) (k at
       (put-first (partOf (fieldAt letter rows values texts k at)) (map partOf (fillFrom letter rows values texts (k + 1) (at + taken))) line)
 
   -- What its edits find: a broken one is the first; where there is none, the others' are left.
-  module _ (marks own-marks : Marks) (line : List ℕ) (found : Finding) (same : own-marks ≡ marks)
-      (finds : found ≡ firstBroken (filledEdits own-marks line (fieldAt letter rows values texts k at))) where
+  module _ (landmarks own-landmarks : Landmarks) (line : List ℕ) (found : Finding) (same : own-landmarks ≡ landmarks)
+      (finds : found ≡ firstBroken (filledEdits own-landmarks line (fieldAt letter rows values texts k at))) where
     by-field : (taken : ℕ) → taken ≡ takenAt rows values texts k at
-        → firstBroken (editsOfAll marks line (fillFrom letter rows values texts k at))
-        ≡ orElse found (firstBroken (editsOfAll marks line (fillFrom letter rows values texts (k + 1) (at + taken))))
+        → firstBroken (editsOfAll landmarks line (fillFrom letter rows values texts k at))
+        ≡ orElse found (firstBroken (editsOfAll landmarks line (fillFrom letter rows values texts (k + 1) (at + taken))))
     unfolding editsOfAll
     by-field taken takes =
         rw (fill-more letter rows values texts k at here taken takes, finds, same)
-        (first-append (filledEdits marks line (fieldAt letter rows values texts k at)) (editsOfAll marks line (fillFrom letter rows values texts (k + 1) (at + taken))))
+        (first-append (filledEdits landmarks line (fieldAt letter rows values texts k at)) (editsOfAll landmarks line (fillFrom letter rows values texts (k + 1) (at + taken))))
 
     pub edits-found : (column number : ℕ) → found ≡ broken column number
-        → firstBroken (editsOfAll marks line (fillFrom letter rows values texts k at)) ≡ broken column number
+        → firstBroken (editsOfAll landmarks line (fillFrom letter rows values texts k at)) ≡ broken column number
     edits-found column number hit = by-field (takenAt rows values texts k at) refl ∙ rw hit
 
     pub edits-next : (taken : ℕ) → taken ≡ takenAt rows values texts k at → found ≡ fine
-        → firstBroken (editsOfAll marks line (fillFrom letter rows values texts k at))
-        ≡ firstBroken (editsOfAll marks line (fillFrom letter rows values texts (k + 1) (at + taken)))
+        → firstBroken (editsOfAll landmarks line (fillFrom letter rows values texts k at))
+        ≡ firstBroken (editsOfAll landmarks line (fillFrom letter rows values texts (k + 1) (at + taken)))
     edits-next taken takes passed = by-field taken takes ∙ rw passed

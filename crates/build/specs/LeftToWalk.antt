@@ -17,8 +17,8 @@ use Rattle.pfml_fields.specs.Fields.{noRow}
 use Rattle.pfml_fields.specs.Rows.{LetterFirst, letters-first}
 use Rattle.edits.specs.Edit.{firstBroken}
 use Rattle.edits.specs.EditLaws.{first-cons, first-append}
-use Rattle.edits.specs.ListLaws.{context-left}
-use Rattle.edits.specs.Lists.{fieldEdits, contextEdits}
+use Rattle.edits.specs.FieldEditLaws.{context-left}
+use Rattle.edits.specs.FieldEdits.{fieldEdits, contextEdits}
 use Rattle.edits.specs.declared.Context.{Context}
 use Rattle.edits.specs.declared.Seen.{Seen}
 use Rattle.pfml.specs.Edits.{rowsFor, around, placedEdits, textEdits, rulesFor}

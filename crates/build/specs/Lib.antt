@@ -3,10 +3,10 @@ pub mod Building
 pub mod RowLaws
 pub mod FillLaws
 pub mod BuildLaws
-pub mod TextLaws
+pub mod BuiltTextLaws
 pub mod StandLaws
 pub mod ReadLaws
 pub mod Theorems
 pub mod Account
 pub mod LeftToWalk
-pub mod Example
+pub mod BuiltExamples

@@ -18,7 +18,7 @@ use Rattle.chars.specs.ColumnLaws.{fine-columns, columns-fine, blank-column, co
 use Rattle.chars.specs.declared.columns.Allowed.the-variants.{Blanks}
 use Rattle.number.specs.Numbers.{numberIn}
 use Rattle.number.specs.NumberLaws.{read-back, number-capitals}
-use Rattle.number.specs.ColumnLaws.{put-number-elsewhere, number-alike, number-digits}
+use Rattle.number.specs.NumberColumnLaws.{put-number-elsewhere, number-alike, number-digits}
 use Rattle.text.specs.Put.{blanks}
 use Rattle.text.specs.PutLaws.{put-text-elsewhere, put-text-at}
 use Rattle.text.specs.Text.{allBlank}
@@ -32,7 +32,7 @@ use Rattle.write.specs.PartLaws.{put-keeps, put-none, put-first}
 use Rattle.write.specs.Records.{put, putAll, recordOf}
 use Rattle.build.specs.Building.{partBy, partOf}
 use Rattle.build.specs.RowLaws.{rows-tiled}
-use Rattle.build.specs.TextLaws.{trim-blanks}
+use Rattle.build.specs.BuiltTextLaws.{trim-blanks}
 use Rattle.build.specs.Values.{Value, amount, none, words, takenBy, formIn, Filled, filled, fillRows, fillRecord, trimmed, textIn}
 
 -- Of every field.

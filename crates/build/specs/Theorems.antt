@@ -8,8 +8,8 @@ use lib.Dec.{eqb, ltb}
 use lib.ListN.{length, getD, length-replicate}
 use borrow.Author.Tests.{eqb-true, eq-eqb, ltb-true, ltb-false}
 use Rattle.laws.specs.Finding.{Finding, fine, broken, Reading, value, refused}
-use Rattle.laws.specs.Text.{bytes}
-use Rattle.reason.specs.Numbers.{Notice, notice}
+use Rattle.laws.specs.Spelling.{bytes}
+use Rattle.reason.specs.ReasonNumbers.{Notice, notice}
 use Rattle.chars.specs.Columns.{widthOf, allowedTest, everyColumn}
 use Rattle.chars.specs.ColumnLaws.{unless-fine, unless-labelled, permitted-labelled, fine-columns, columns-fine}
 use Rattle.chars.specs.declared.columns.Allowed.the-variants.{Permitted}
@@ -19,12 +19,12 @@ use Rattle.pfml_fields.specs.Fields.{firstIn, lastIn, noRow}
 use Rattle.pfml_fields.specs.Tiling.{tiles, tiles-none, tiles-first}
 use Rattle.edits.specs.Edit.{Edit, firstBroken}
 use Rattle.edits.specs.EditLaws.{AllFine, fine-all, all-fine, all-append, FirstIn, first-of-list}
-use Rattle.edits.specs.Labelled.{own-labelled}
+use Rattle.edits.specs.FieldsLabelled.{own-labelled}
 use Rattle.edits.specs.Labels.{AllLabelled, none-labelled, more-labelled, labelled-append}
 use Rattle.edits.specs.Own.{own}
-use Rattle.edits.specs.declared.Marks.{Marks}
+use Rattle.edits.specs.declared.Landmarks.{Landmarks}
 use Rattle.pfml.specs.Edits.{rowsFor}
-use Rattle.pfml.specs.Kinds.{kindOf, marksOf, isKnown}
+use Rattle.pfml.specs.Kinds.{kindOf, landmarksOf, isKnown}
 use Rattle.pfml.specs.Letters.{kind-of-A, kind-of-E, kind-of-S}
 use Rattle.step.specs.Moves.{allWell}
 use Rattle.write.specs.PartLaws.{puts-keep}
@@ -39,8 +39,8 @@ use Rattle.build.specs.declared.form.Form.{Form}
 use Rattle.build.specs.declared.form.Form.the-variants.{Amount}
 
 -- ---- the labels of the refusals
-module _ (marks : Marks) (line : List ℕ) where
-  given-labelled : (fields : List Filled) → AllLabelled (editsOfAll marks line fields)
+module _ (landmarks : Landmarks) (line : List ℕ) where
+  given-labelled : (fields : List Filled) → AllLabelled (editsOfAll landmarks line fields)
   unfolding editsOfAll
   given-labelled [] = none-labelled
   given-labelled (field ∷ fields) =
@@ -49,12 +49,12 @@ module _ (marks : Marks) (line : List ℕ) where
       let fits = fitsIn (widthOf first last) (field .value) in
       let these =
       more-labelled _ _ (unless-labelled fits first 85) refl refl
-      (more-labelled _ _ (permitted-labelled line first last) tt refl (own-labelled marks (bytes "PFML") (field .class) line first last)) in
-      labelled-append (filledEdits marks line field) (editsOfAll marks line fields) these (given-labelled fields)
+      (more-labelled _ _ (permitted-labelled line first last) tt refl (own-labelled landmarks (bytes "PFML") (field .class) line first last)) in
+      labelled-append (filledEdits landmarks line field) (editsOfAll landmarks line fields) these (given-labelled fields)
 
 -- What an edit of a call that builds a record finds is told by its label.
-pub build-labelled : (marks : Marks) (fields : List Filled) (size : ℕ) → AllLabelled (buildEdits marks fields size)
-build-labelled marks fields size = more-labelled _ _ (unless-labelled (eqb size 290) 0 84) refl refl (given-labelled marks (padded fields) fields)
+pub build-labelled : (landmarks : Landmarks) (fields : List Filled) (size : ℕ) → AllLabelled (buildEdits landmarks fields size)
+build-labelled landmarks fields size = more-labelled _ _ (unless-labelled (eqb size 290) 0 84) refl refl (given-labelled landmarks (padded fields) fields)
 
 -- None is 0, "accepted".
 says-fine : (found : Finding) (line out : List ℕ) → ((column number : ℕ) → found ≡ broken column number → number ≡ 0 → ⊥)
@@ -68,17 +68,17 @@ each-more P Q [] more all = tt
 each-more P Q (field ∷ fields) more all = (more field (all .0), each-more P Q fields more (all .1))
 
 -- What is asked of a field: its value fits, its characters are permitted, and its own rules refuse nothing in the padded record.
-pub record Passes (marks : Marks) (line : List ℕ) (field : Filled) : Type 0 where
+pub record Passes (landmarks : Landmarks) (line : List ℕ) (field : Filled) : Type 0 where
   pub fits : Fits field
   pub permitted : everyColumn Permitted line (field .first) (field .last) ≡ fine
-  pub own-fine : AllFine (own marks (bytes "PFML") (field .class) line (field .first) (field .last))
+  pub own-fine : AllFine (own landmarks (bytes "PFML") (field .class) line (field .first) (field .last))
 
-module _ (marks : Marks) (line : List ℕ) where
-  fine-each : (fields : List Filled) → AllFine (editsOfAll marks line fields) → Each (Passes marks line) fields
+module _ (landmarks : Landmarks) (line : List ℕ) where
+  fine-each : (fields : List Filled) → AllFine (editsOfAll landmarks line fields) → Each (Passes landmarks line) fields
   unfolding editsOfAll
   fine-each [] all = tt
   fine-each (field ∷ fields) all =
-      let both = all-append (filledEdits marks line field) (editsOfAll marks line fields) all in
+      let both = all-append (filledEdits landmarks line field) (editsOfAll landmarks line fields) all in
       let these = both .0 in (
         record { fits = unless-fine _ (field .first) 85 (these .0); permitted = these .1 .0; own-fine = these .1 .1 },
         fine-each fields (both .1),
@@ -88,12 +88,12 @@ module _ (marks : Marks) (line : List ℕ) where
   append-all [] b p q = q
   append-all (edit ∷ a) b p q = (p .0, append-all a b (p .1) q)
 
-  each-fine : (fields : List Filled) → Each (Passes marks line) fields → AllFine (editsOfAll marks line fields)
+  each-fine : (fields : List Filled) → Each (Passes landmarks line) fields → AllFine (editsOfAll landmarks line fields)
   unfolding editsOfAll
   each-fine [] all = tt
   each-fine (field ∷ fields) all =
       let here = all .0 in
-      append-all (filledEdits marks line field) (editsOfAll marks line fields) (rw (here .fits) refl, (here .permitted, here .own-fine)) (each-fine fields (all .1))
+      append-all (filledEdits landmarks line field) (editsOfAll landmarks line fields) (rw (here .fits) refl, (here .permitted, here .own-fine)) (each-fine fields (all .1))
 
 -- ---- the whole line
 columns-everywhere : (letter : ℕ) (line : List ℕ) (rows : List (List ℕ)) (from : ℕ) (values texts : List ℕ) → tiles from rows ≡ true
@@ -124,8 +124,8 @@ abbrev pub Built : ℕ → List ℕ → List ℕ → List ℕ → Type 0
 Built letter values texts out = building letter values texts out .says ≡ allWell
 
 module _ (letter : ℕ) (values texts out : List ℕ) where
-  abbrev pub marksFor : Marks
-  marksFor = marksOf (kindOf letter)
+  abbrev pub marksFor : Landmarks
+  marksFor = landmarksOf (kindOf letter)
 
   abbrev pub given : List Filled
   given = fillRecord letter values texts

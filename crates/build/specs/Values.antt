@@ -5,7 +5,7 @@ use lib.Dec.{eqb}
 use lib.ListN.{getD, take, drop}
 use Rattle.laws.specs.Choice.{if_then_else_}
 use Rattle.laws.specs.Finding.{Reading, value, refused}
-use Rattle.laws.specs.Text.{bytes}
+use Rattle.laws.specs.Spelling.{bytes}
 use Rattle.chars.specs.Characters.{isBlank, capitals}
 use Rattle.chars.specs.Columns.{widthOf}
 use Rattle.number.specs.Numbers.{numberIn}

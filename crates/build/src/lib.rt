@@ -3,7 +3,7 @@
 // `values` has one entry for each field of the record, in the order of its table: of a number the number, of a text how many characters of `texts`
 // it takes, where the texts stand one behind the other; the entries of the letter, the entity code and blank space are not looked at. An entry past
 // the end is 0, and a text ends where `texts` ends; what is left over of either is not looked at.
-mod fields;
+mod rows;
 pub mod form;
 pub mod read;
 mod value;
@@ -14,7 +14,7 @@ use reason::Refusal;
 use text::put;
 use write::Wrote;
 ghost use mathlib.Core.Path.{_≡_};
-ghost use Rattle.reason.specs.Numbers.{notice, numberOf};
+ghost use Rattle.reason.specs.ReasonNumbers.{notice, numberOf};
 ghost use Rattle.write.specs.Writing.{noticeIn, writtenBy};
 ghost use Rattle.build.specs.Building.{building};
 
@@ -36,8 +36,8 @@ fn build(letter: u8, values: &[u64], texts: &[u8], out: &mut [u8]) -> Wrote
         return refused(0, Reason::BuildLength);
     }
     let mut line = [0; pfml_fields::RECORD as usize];
-    fields::put_fields(letter, values, texts, &mut line);
-    let found = fields::first_broken(letter, values, texts, &line);
+    rows::put_fields(letter, values, texts, &mut line);
+    let found = rows::first_broken(letter, values, texts, &line);
     match found {
         Edit::Broken(column, reason) => refused(column, reason),
         Edit::Passed => {

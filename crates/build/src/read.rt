@@ -1,5 +1,5 @@
 // The values of a record's fields, read.
-use crate::fields;
+use crate::rows;
 use crate::value;
 use number::Number;
 ghost use mathlib.Core.Path.{_≡_};
@@ -15,7 +15,7 @@ ghost use Rattle.build.specs.Values.{textIn};
 pub fn field_number(letter: u8, k: usize, line: &[u8]) -> Number
     ensures { λ r. ⌜ readingOf r ≡ numberIn (capitals (now (line .entry))) (firstIn (getD (rowsFor (kindOf letter)) k noRow)) (lastIn (getD (rowsFor (kindOf letter)) k noRow)) ⌝ }
 {
-    let row = fields::row_of(letter, k);
+    let row = rows::row_of(letter, k);
     number::read_number(line, row[1], row[2])
 }
 
@@ -39,7 +39,7 @@ fn text_length(line: &[u8], first: u16, last: u16) -> usize
 pub fn field_text(letter: u8, k: usize, line: &[u8]) -> usize
     ensures { λ r. ⌜ r ≡ length (textIn (capitals (now (line .entry))) (firstIn (getD (rowsFor (kindOf letter)) k noRow)) (lastIn (getD (rowsFor (kindOf letter)) k noRow))) ⌝ }
 {
-    let row = fields::row_of(letter, k);
+    let row = rows::row_of(letter, k);
     text_length(line, row[1], row[2])
 }
 
@@ -47,6 +47,6 @@ pub fn field_text(letter: u8, k: usize, line: &[u8]) -> usize
 pub fn field_first(letter: u8, k: usize) -> u16
     ensures { λ r. ⌜ r ≡ firstIn (getD (rowsFor (kindOf letter)) k noRow) ⌝ }
 {
-    let row = fields::row_of(letter, k);
+    let row = rows::row_of(letter, k);
     row[1]
 }

@@ -6,8 +6,8 @@ use Prim.Native.String.{String}
 use mathlib.Core.List.{List, [], _∷_, _++_, map}
 use mathlib.Core.Path.{_≡_, refl}
 use Rattle.laws.specs.Finding.{firstOf}
-use Rattle.laws.specs.Text.{bytes}
-use Rattle.reason.specs.Numbers.{notice}
+use Rattle.laws.specs.Spelling.{bytes}
+use Rattle.reason.specs.ReasonNumbers.{notice}
 use Rattle.lines.specs.Cutting.{lengthTest, endTest}
 use Rattle.lines.specs.Lines.{isEnd, textOf, endOf, linesFrom}
 use Rattle.calendar.specs.Dates.{isLeap, monthDays, daysIn, isDate, inQuarter}
@@ -16,16 +16,16 @@ use Rattle.codes.specs.Codes as Codes
 use Rattle.chars.specs.Characters.{isPermitted, capitalOf, capitals, isBlank, isDigit, isLetter, isOfName}
 use Rattle.chars.specs.Columns.{columnTest, everyColumn}
 use Rattle.number.specs.Numbers.{numberFrom, numberIn, valueIn}
-use Rattle.number.specs.Rules.{periodIn, flagIn, beginsWith69, isNineZeros, mayBeFiled}
+use Rattle.rules.specs.Rules.{periodIn, flagIn, beginsWith69, isNineZeros, mayBeFiled}
 use Rattle.text.specs.Text.{allBlank, isIndented, isAsked, readsAs, hasPattern}
 use Rattle.field.specs.Classes.{classes, classOf}
 use Rattle.pfml_fields.specs.Fields.{fieldsOfA, fieldsOfE, fieldsOfS, fieldsOfT, fieldsOfF}
-use Rattle.edits.specs.Fields.{ruleList, ruleOf}
-use Rattle.edits.specs.Lists.{fieldEdits}
+use Rattle.edits.specs.RuleNumbers.{ruleList, ruleOf}
+use Rattle.edits.specs.FieldEdits.{fieldEdits}
 use Rattle.edits.specs.declared.Opening.{Opening}
 use Rattle.edits.specs.declared.format.Format.the-variants.{Pfml}
 use Rattle.pfml.specs.Kinds.{kindOf}
-use Rattle.pfml_fields.specs.Rules.{rulesOfA, rulesOfE, rulesOfS, rulesOfT, rulesOfF}
+use Rattle.pfml_fields.specs.FieldRules.{rulesOfA, rulesOfE, rulesOfS, rulesOfT, rulesOfF}
 use Rattle.tables.specs.Room.{Room}
 use Rattle.tables.specs.Tables.{isAmong}
 use Rattle.meaning.specs.Meaning.{editsFrom, firstOfFile, recordsOnto, Outcome, accepted, refused, meaning}

@@ -8,7 +8,7 @@ use lib.ListN.{getD}
 use borrow.Author.Tests.{eqb-true, le-leb}
 use Rattle.laws.specs.Choice.{if_then_else_}
 use Rattle.laws.specs.Finding.{fine, broken, firstOf}
-use Rattle.laws.specs.First.{first-is-first, none-is-broken, finds-nothing}
+use Rattle.laws.specs.First.{first-of-first, none-is-broken, finds-nothing}
 use Rattle.laws.specs.Labelled.{Labelled, labelled-says, says-labelled, fine-labelled, broken-labelled}
 use Rattle.chars.specs.CharacterLaws.{digit-permitted, name-permitted}
 use Rattle.chars.specs.Characters.{isPermitted, isBlank, isDigit, isOfName}
@@ -67,7 +67,7 @@ module _ (line : List ℕ) (first last : ℕ) where
   unfolding everyColumn
   each-labelled allowed number each =
       says-labelled number first last _ (λ column told e.
-      let broken-one = first-is-first (allowedTest allowed line) (widthOf first last) (first - 1) column told e in
+      let broken-one = first-of-first (allowedTest allowed line) (widthOf first last) (first - 1) column told e in
       let at = first - 1 + broken-one .at in
       let some = broken-one .in-range in
       let is = labelled-says number (at + 1) (at + 1) (allowedTest allowed line at) (each at) column told (broken-one .hit) in

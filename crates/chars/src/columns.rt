@@ -5,7 +5,7 @@ ghost use mathlib.Core.Path.{_≡_};
 ghost use Prim.Native.Nat.{_-_, _<_};
 ghost use Rattle.laws.specs.Finding.{fine, broken};
 ghost use Rattle.laws.specs.Choice.{if_then_else_};
-ghost use Rattle.reason.specs.Numbers.{findingOf, numberOf};
+ghost use Rattle.reason.specs.ReasonNumbers.{findingOf, numberOf};
 ghost use Rattle.chars.specs.Characters.{capitals};
 ghost use Rattle.chars.specs.Columns.{allowedTest, everyColumn, isFine};
 ghost use Rattle.chars.specs.Sweep.{allPass, isBetween, readsAsOfName};

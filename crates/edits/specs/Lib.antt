@@ -6,11 +6,11 @@ pub mod Labels
 pub mod EditLaws
 pub mod Own
 pub mod WithContext
-pub mod Fields
+pub mod RuleNumbers
 pub mod Tests
 pub mod FieldLaws
-pub mod Parts
-pub mod Lists
-pub mod ListLaws
-pub mod Labelled
-pub mod Alike
+pub mod FieldParts
+pub mod FieldEdits
+pub mod FieldEditLaws
+pub mod FieldsLabelled
+pub mod FieldsAgree

@@ -10,22 +10,22 @@ use Rattle.calendar.specs.Quarters.{isFilingYear}
 use Rattle.chars.specs.declared.columns.Allowed.the-variants.{Blanks, Digits, OfNames}
 use Rattle.chars.specs.Columns.{everyColumn}
 use Rattle.number.specs.Numbers.{valueIn}
-use Rattle.number.specs.Rules.{periodIn, flagIn, beginsWith69, isNineZeros, mayBeFiled}
+use Rattle.rules.specs.Rules.{periodIn, flagIn, beginsWith69, isNineZeros, mayBeFiled}
 use Rattle.text.specs.Text.{allBlank, isIndented, entityTest}
 use Rattle.text.specs.Address.{regionIn, stateTest, zipTest, extensionTest}
 use Rattle.field.specs.declared.class.Class.{Class}
 use Rattle.field.specs.declared.class.Class.the-variants.{Ignored, RecordLetter, BlankSpace, Numeric, AccountNumber, Flag, ThirdQuarterFlag, Period, RequiredText, OptionalText, PersonName, EntityCode, StateCode, ZipCode, ZipExtension, TaxYear, EmployerFein, IdentityNumber, CeaseDate}
 use Rattle.edits.specs.Edit.{Edit, atFirst, rule, eachColumn}
-use Rattle.edits.specs.declared.Marks.{Marks}
+use Rattle.edits.specs.declared.Landmarks.{Landmarks}
 
 -- "E flags: 0 or 1 (47)"
 abbrev pub flagEdit : List ℕ → ℕ → Edit
 flagEdit line first = atFirst 47 first (findingIn (flagIn line first))
 
 -- "191 is tested only in period 09 (Appendix D); otherwise any character passes."
-abbrev pub thirdQuarterEdit : Marks → List ℕ → ℕ → Edit
-thirdQuarterEdit marks line first =
-    atFirst 47 first (if eqb (valueIn line (marks .«period_first») (marks .«period_last»)) 9 then findingIn (flagIn line first) else fine)
+abbrev pub thirdQuarterEdit : Landmarks → List ℕ → ℕ → Edit
+thirdQuarterEdit landmarks line first =
+    atFirst 47 first (if eqb (valueIn line (landmarks .«period_first») (landmarks .«period_last»)) 9 then findingIn (flagIn line first) else fine)
 
 -- "Number .. all digits (30 at the first that is not)"
 abbrev pub digitsEdit : List ℕ → ℕ → ℕ → Edit
@@ -45,28 +45,28 @@ ceaseEdits final date first =
     rule 50 first (final || eqb date 0) ∷ rule 51 first (not (final && eqb date 0)) ∷ rule 48 first (not final || isDate date) ∷ []
 
 -- Whether the return is the final one: 282 is not 0.
-abbrev pub isFinal : Marks → List ℕ → Bool
-isFinal marks line = not (eqb (valueIn line (marks .«final_flag») (marks .«final_flag»)) 0)
+abbrev pub isFinal : Landmarks → List ℕ → Bool
+isFinal landmarks line = not (eqb (valueIn line (landmarks .«final_flag») (landmarks .«final_flag»)) 0)
 
 -- The own edits of a field, by its class.
-abbrev pub own : Marks → List ℕ → Class → List ℕ → ℕ → ℕ → List Edit
-own marks code Ignored line first last = []
-own marks code RecordLetter line first last = []
-own marks code BlankSpace line first last = eachColumn 31 Blanks line first last ∷ []
-own marks code Numeric line first last = digitsEdit line first last ∷ []
-own marks code AccountNumber line first last =
+abbrev pub own : Landmarks → List ℕ → Class → List ℕ → ℕ → ℕ → List Edit
+own landmarks code Ignored line first last = []
+own landmarks code RecordLetter line first last = []
+own landmarks code BlankSpace line first last = eachColumn 31 Blanks line first last ∷ []
+own landmarks code Numeric line first last = digitsEdit line first last ∷ []
+own landmarks code AccountNumber line first last =
     record { number = 30; first = first; last = last; finds = if allBlank line first last then fine else everyColumn Digits line first last } ∷ []
-own marks code Flag line first last = flagEdit line first ∷ []
-own marks code ThirdQuarterFlag line first last = thirdQuarterEdit marks line first ∷ []
-own marks code Period line first last = atFirst 40 first (findingIn (periodIn line first last)) ∷ []
-own marks code RequiredText line first last = requiredEdits line first last
-own marks code OptionalText line first last = rule 33 first (allBlank line first last || not (isIndented line first)) ∷ []
-own marks code PersonName line first last = requiredEdits line first last ++ (eachColumn 54 OfNames line first last ∷ [])
-own marks code EntityCode line first last = atFirst 34 first (entityTest code line first) ∷ []
-own marks code StateCode line first last = atFirst 35 first (stateTest (regionIn line first) first) ∷ []
-own marks code ZipCode line first last = atFirst 36 first (zipTest (regionIn line (marks .state)) line first) ∷ []
-own marks code ZipExtension line first last = atFirst 37 first (extensionTest (regionIn line (marks .state)) line first) ∷ []
-own marks code TaxYear line first last = digitsEdit line first last ∷ rule 38 first (isFilingYear (valueIn line first last)) ∷ []
-own marks code EmployerFein line first last = digitsEdit line first last ∷ feinEdits (valueIn line first last) first
-own marks code IdentityNumber line first last = digitsEdit line first last ∷ rule 52 first (mayBeFiled (valueIn line first last)) ∷ []
-own marks code CeaseDate line first last = digitsEdit line first last ∷ ceaseEdits (isFinal marks line) (valueIn line first last) first
+own landmarks code Flag line first last = flagEdit line first ∷ []
+own landmarks code ThirdQuarterFlag line first last = thirdQuarterEdit landmarks line first ∷ []
+own landmarks code Period line first last = atFirst 40 first (findingIn (periodIn line first last)) ∷ []
+own landmarks code RequiredText line first last = requiredEdits line first last
+own landmarks code OptionalText line first last = rule 33 first (allBlank line first last || not (isIndented line first)) ∷ []
+own landmarks code PersonName line first last = requiredEdits line first last ++ (eachColumn 54 OfNames line first last ∷ [])
+own landmarks code EntityCode line first last = atFirst 34 first (entityTest code line first) ∷ []
+own landmarks code StateCode line first last = atFirst 35 first (stateTest (regionIn line first) first) ∷ []
+own landmarks code ZipCode line first last = atFirst 36 first (zipTest (regionIn line (landmarks .state)) line first) ∷ []
+own landmarks code ZipExtension line first last = atFirst 37 first (extensionTest (regionIn line (landmarks .state)) line first) ∷ []
+own landmarks code TaxYear line first last = digitsEdit line first last ∷ rule 38 first (isFilingYear (valueIn line first last)) ∷ []
+own landmarks code EmployerFein line first last = digitsEdit line first last ∷ feinEdits (valueIn line first last) first
+own landmarks code IdentityNumber line first last = digitsEdit line first last ∷ rule 52 first (mayBeFiled (valueIn line first last)) ∷ []
+own landmarks code CeaseDate line first last = digitsEdit line first last ∷ ceaseEdits (isFinal landmarks line) (valueIn line first last) first

@@ -9,7 +9,7 @@ use Rattle.laws.specs.Finding.{Finding, fine, broken, orElse, firstOf, findingI
 use Rattle.calendar.specs.Dates.{isDate}
 use Rattle.chars.specs.Columns.{unless}
 use Rattle.number.specs.Numbers.{numberIn, valueIn}
-use Rattle.number.specs.Rules.{yearIn, periodIn, flagIn, feinIn, identityIn}
+use Rattle.rules.specs.Rules.{yearIn, periodIn, flagIn, feinIn, identityIn}
 use Rattle.text.specs.Text.{entityTest}
 use Rattle.text.specs.Address.{regionIn, stateTest, zipTest, extensionTest}
 use Rattle.field.specs.Classes.{classOf}
@@ -17,10 +17,10 @@ use Rattle.field.specs.ClassTests.{classTest}
 use Rattle.field.specs.declared.class.Class.{Class}
 use Rattle.field.specs.declared.class.Class.the-variants.{Ignored, RecordLetter, BlankSpace, Numeric, AccountNumber, Flag, ThirdQuarterFlag, Period, RequiredText, OptionalText, PersonName, EntityCode, StateCode, ZipCode, ZipExtension, TaxYear, EmployerFein, IdentityNumber, CeaseDate}
 use Rattle.edits.specs.Edit.{firstBroken}
-use Rattle.edits.specs.Fields.{Around, ruleOf, noRow}
+use Rattle.edits.specs.RuleNumbers.{Around, ruleOf, noRow}
 use Rattle.edits.specs.Own.{isFinal}
 use Rattle.edits.specs.WithContext.{withContext}
-use Rattle.edits.specs.declared.Marks.{Marks}
+use Rattle.edits.specs.declared.Landmarks.{Landmarks}
 use Rattle.edits.specs.declared.Rule.{Rule}
 
 -- What the rules of a date find, given its reading.
@@ -34,39 +34,39 @@ abbrev pub ceaseIn : Bool → ℕ → Reading → Finding
 ceaseIn final first (value date) = ceaseRules final date first
 ceaseIn final first (refused column number) = broken column number
 
-unfoldable pub ceaseTest : Marks → List ℕ → ℕ → ℕ → Finding
-ceaseTest marks line first last = ceaseIn (isFinal marks line) first (numberIn line first last)
+unfoldable pub ceaseTest : Landmarks → List ℕ → ℕ → ℕ → Finding
+ceaseTest landmarks line first last = ceaseIn (isFinal landmarks line) first (numberIn line first last)
 
-unfoldable pub thirdQuarterTest : Marks → List ℕ → ℕ → Finding
-thirdQuarterTest marks line first =
-    if eqb (valueIn line (marks .«period_first») (marks .«period_last»)) 9 then findingIn (flagIn line first) else fine
+unfoldable pub thirdQuarterTest : Landmarks → List ℕ → ℕ → Finding
+thirdQuarterTest landmarks line first =
+    if eqb (valueIn line (landmarks .«period_first») (landmarks .«period_last»)) 9 then findingIn (flagIn line first) else fine
 
 -- The own rules behind the class test, as the readers of the field crates find them.
-abbrev pub ownRest : Marks → List ℕ → Class → List ℕ → ℕ → ℕ → Finding
-ownRest marks code Ignored line first last = fine
-ownRest marks code RecordLetter line first last = fine
-ownRest marks code BlankSpace line first last = fine
-ownRest marks code Numeric line first last = fine
-ownRest marks code AccountNumber line first last = fine
-ownRest marks code Flag line first last = findingIn (flagIn line first)
-ownRest marks code ThirdQuarterFlag line first last = thirdQuarterTest marks line first
-ownRest marks code Period line first last = findingIn (periodIn line first last)
-ownRest marks code RequiredText line first last = fine
-ownRest marks code OptionalText line first last = fine
-ownRest marks code PersonName line first last = fine
-ownRest marks code EntityCode line first last = entityTest code line first
-ownRest marks code StateCode line first last = stateTest (regionIn line first) first
-ownRest marks code ZipCode line first last = zipTest (regionIn line (marks .state)) line first
-ownRest marks code ZipExtension line first last = extensionTest (regionIn line (marks .state)) line first
-ownRest marks code TaxYear line first last = findingIn (yearIn line first last)
-ownRest marks code EmployerFein line first last = findingIn (feinIn line first last)
-ownRest marks code IdentityNumber line first last = findingIn (identityIn line first last)
-ownRest marks code CeaseDate line first last = ceaseTest marks line first last
+abbrev pub ownRest : Landmarks → List ℕ → Class → List ℕ → ℕ → ℕ → Finding
+ownRest landmarks code Ignored line first last = fine
+ownRest landmarks code RecordLetter line first last = fine
+ownRest landmarks code BlankSpace line first last = fine
+ownRest landmarks code Numeric line first last = fine
+ownRest landmarks code AccountNumber line first last = fine
+ownRest landmarks code Flag line first last = findingIn (flagIn line first)
+ownRest landmarks code ThirdQuarterFlag line first last = thirdQuarterTest landmarks line first
+ownRest landmarks code Period line first last = findingIn (periodIn line first last)
+ownRest landmarks code RequiredText line first last = fine
+ownRest landmarks code OptionalText line first last = fine
+ownRest landmarks code PersonName line first last = fine
+ownRest landmarks code EntityCode line first last = entityTest code line first
+ownRest landmarks code StateCode line first last = stateTest (regionIn line first) first
+ownRest landmarks code ZipCode line first last = zipTest (regionIn line (landmarks .state)) line first
+ownRest landmarks code ZipExtension line first last = extensionTest (regionIn line (landmarks .state)) line first
+ownRest landmarks code TaxYear line first last = findingIn (yearIn line first last)
+ownRest landmarks code EmployerFein line first last = findingIn (feinIn line first last)
+ownRest landmarks code IdentityNumber line first last = findingIn (identityIn line first last)
+ownRest landmarks code CeaseDate line first last = ceaseTest landmarks line first last
 
 -- The rules of a field behind its class test: its own, then those of the context.
 unfoldable pub rulesTest : Around → List ℕ → Class → Rule → ℕ → ℕ → Finding
 rulesTest a line class which first last =
-    orElse (ownRest (a .marks) (a .code) class line first last) (firstBroken (withContext which (a .marks) (a .here) (a .seen) line first last))
+    orElse (ownRest (a .landmarks) (a .code) class line first last) (firstBroken (withContext which (a .landmarks) (a .here) (a .seen) line first last))
 
 unfoldable pub fieldTest : Around → List ℕ → Class → Rule → ℕ → ℕ → Finding
 fieldTest a line class which first last = orElse (classTest class line first last) (rulesTest a line class which first last)

@@ -12,17 +12,17 @@ use Rattle.edits.specs.Edit.{Edit, rule}
 use Rattle.edits.specs.Formats.{quarterHeld}
 use Rattle.edits.specs.Own.{isFinal}
 use Rattle.edits.specs.declared.Context.{Context}
-use Rattle.edits.specs.declared.Marks.{Marks}
+use Rattle.edits.specs.declared.Landmarks.{Landmarks}
 use Rattle.edits.specs.declared.Seen.{Seen}
 use Rattle.edits.specs.declared.Rule.{Rule}
 use Rattle.edits.specs.declared.Rule.the-variants.{Nothing, YearInTime, QuarterInTime, YearOfA, PeriodOfA, FeinNew, FeinOfE, DateInQuarter, IdentityNew, CountOfS, WagesOfS, FileCountOfS, FileCountOfE, FileWagesOfS, FinalIfCurrent}
 
 -- The year and the period of the record.
-abbrev pub quarterOn : Marks → List ℕ → Quarter
-quarterOn marks line =
+abbrev pub quarterOn : Landmarks → List ℕ → Quarter
+quarterOn landmarks line =
     record {
-      year = valueIn line (marks .«year_first») (marks .«year_last»);
-      month = valueIn line (marks .«period_first») (marks .«period_last»);
+      year = valueIn line (landmarks .«year_first») (landmarks .«year_last»);
+      month = valueIn line (landmarks .«period_first») (landmarks .«period_last»);
     }
 
 -- (v) of document 02: "41 is for quarters after the current"
@@ -50,28 +50,28 @@ abbrev pub finalIfCurrent : Timing → ℕ → ℕ → List Edit
 finalIfCurrent timing v first = rule 65 first (not (mustBeFinal timing && eqb v 0)) ∷ []
 
 -- The edits of a rule, in order; v is the field's value.
-abbrev pub ruleEdits : Rule → Marks → Context → Seen → List ℕ → ℕ → ℕ → List Edit
-ruleEdits Nothing marks around seen line first v = []
+abbrev pub ruleEdits : Rule → Landmarks → Context → Seen → List ℕ → ℕ → ℕ → List Edit
+ruleEdits Nothing landmarks around seen line first v = []
 -- "39 is for years beyond the current quarter's"
-ruleEdits YearInTime marks around seen line first v = rule 39 first (leb v (currentQuarter (quarterHeld (around .held)) .year)) ∷ []
-ruleEdits QuarterInTime marks around seen line first v = quarterInTime (timingOf (quarterHeld (around .held)) (quarterOn marks line)) first
+ruleEdits YearInTime landmarks around seen line first v = rule 39 first (leb v (currentQuarter (quarterHeld (around .held)) .year)) ∷ []
+ruleEdits QuarterInTime landmarks around seen line first v = quarterInTime (timingOf (quarterHeld (around .held)) (quarterOn landmarks line)) first
 -- "E and S: not A's 42."
-ruleEdits YearOfA marks around seen line first v = rule 42 first (eqb v (around .filed .year)) ∷ []
+ruleEdits YearOfA landmarks around seen line first v = rule 42 first (eqb v (around .filed .year)) ∷ []
 -- "E and S: not A's 43."
-ruleEdits PeriodOfA marks around seen line first v = rule 43 first (eqb v (around .filed .month)) ∷ []
-ruleEdits FeinNew marks around seen line first v = feinNew (seen .fein) (around .«list_full») first
+ruleEdits PeriodOfA landmarks around seen line first v = rule 43 first (eqb v (around .filed .month)) ∷ []
+ruleEdits FeinNew landmarks around seen line first v = feinNew (seen .fein) (around .«list_full») first
 -- "S and T: not the open E's 46."
-ruleEdits FeinOfE marks around seen line first v = rule 46 first (eqb v (around .open .fein)) ∷ []
-ruleEdits DateInQuarter marks around seen line first v = dateInQuarter (isFinal marks line) v (around .filed) first
-ruleEdits IdentityNew marks around seen line first v = identityNew v (seen .id) (around .«ids_full») first
-ruleEdits CountOfS marks around seen line first v = countOfS v (around .open .count) (around .open .follow) first
+ruleEdits FeinOfE landmarks around seen line first v = rule 46 first (eqb v (around .open .fein)) ∷ []
+ruleEdits DateInQuarter landmarks around seen line first v = dateInQuarter (isFinal landmarks line) v (around .filed) first
+ruleEdits IdentityNew landmarks around seen line first v = identityNew v (seen .id) (around .«ids_full») first
+ruleEdits CountOfS landmarks around seen line first v = countOfS v (around .open .count) (around .open .follow) first
 -- "wages are not their sum 57."
-ruleEdits WagesOfS marks around seen line first v = rule 57 first (eqb v (around .open .sum)) ∷ []
+ruleEdits WagesOfS landmarks around seen line first v = rule 57 first (eqb v (around .open .sum)) ∷ []
 -- "F: S count 58, E count 59, wages 60."
-ruleEdits FileCountOfS marks around seen line first v = rule 58 first (eqb v (around .all .count)) ∷ []
-ruleEdits FileCountOfE marks around seen line first v = rule 59 first (eqb v (around .all .employers)) ∷ []
-ruleEdits FileWagesOfS marks around seen line first v = rule 60 first (eqb v (around .all .sum)) ∷ []
-ruleEdits FinalIfCurrent marks around seen line first v = finalIfCurrent (timingOf (quarterHeld (around .held)) (around .filed)) v first
+ruleEdits FileCountOfS landmarks around seen line first v = rule 58 first (eqb v (around .all .count)) ∷ []
+ruleEdits FileCountOfE landmarks around seen line first v = rule 59 first (eqb v (around .all .employers)) ∷ []
+ruleEdits FileWagesOfS landmarks around seen line first v = rule 60 first (eqb v (around .all .sum)) ∷ []
+ruleEdits FinalIfCurrent landmarks around seen line first v = finalIfCurrent (timingOf (quarterHeld (around .held)) (around .filed)) v first
 
-abbrev pub withContext : Rule → Marks → Context → Seen → List ℕ → ℕ → ℕ → List Edit
-withContext which marks around seen line first last = ruleEdits which marks around seen line first (valueIn line first last)
+abbrev pub withContext : Rule → Landmarks → Context → Seen → List ℕ → ℕ → ℕ → List Edit
+withContext which landmarks around seen line first last = ruleEdits which landmarks around seen line first (valueIn line first last)

@@ -1,6 +1,6 @@
 // The fields of a record in order: the first broken column of the first broken field.
 use crate::Context;
-use crate::Marks;
+use crate::Landmarks;
 use crate::Rule;
 use crate::Seen;
 use crate::own;
@@ -14,10 +14,10 @@ ghost use mathlib.Core.Path.{_≡_};
 ghost use Prim.Native.Nat.{_-_};
 ghost use lib.ListN.{getD};
 ghost use Rattle.laws.specs.Finding.{firstOf};
-ghost use Rattle.reason.specs.Numbers.{findingOf};
+ghost use Rattle.reason.specs.ReasonNumbers.{findingOf};
 ghost use Rattle.chars.specs.Characters.{capitals};
 ghost use Rattle.chars.specs.Columns.{allowedTest, everyColumn};
-ghost use Rattle.edits.specs.Fields.{ruleOf, noRow};
+ghost use Rattle.edits.specs.RuleNumbers.{ruleOf, noRow};
 ghost use Rattle.edits.specs.Tests.{rulesTest, fieldsTest};
 
 // The rule of a number.
@@ -65,7 +65,7 @@ fn row_at(rows: &[[u16; 3]], k: usize) -> [u16; 3]
 
 // The rules of a field behind its class test: its own, then those of the context.
 fn rules_edit(
-    marks: Marks,
+    landmarks: Landmarks,
     code: [u8; 4],
     around: Context,
     seen: Seen,
@@ -75,12 +75,12 @@ fn rules_edit(
     first: u16,
     last: u16,
 ) -> Edit
-    ensures { λ r. ⌜ findingOf r ≡ rulesTest (record { marks = marks; code = code; here = around; seen = seen }) (capitals (now (line .entry))) class rule first last ⌝ }
+    ensures { λ r. ⌜ findingOf r ≡ rulesTest (record { landmarks = landmarks; code = code; here = around; seen = seen }) (capitals (now (line .entry))) class rule first last ⌝ }
 {
-    let e = own::own_edit(marks, code, class, line, first, last);
+    let e = own::own_edit(landmarks, code, class, line, first, last);
     match e {
         Edit::Broken(_, _) => e,
-        Edit::Passed => with_context::context_edit(rule, marks, around, seen, line, first, last),
+        Edit::Passed => with_context::context_edit(rule, landmarks, around, seen, line, first, last),
     }
 }
 
@@ -97,7 +97,7 @@ fn look_from(allowed: Allowed, line: &[u8], first: u16, last: u16) -> u16
 // The first broken column of the first broken field. A row of the list has a field's class, first and last column; the rule beside it, by number,
 // is that of its context.
 pub fn first_broken(
-    marks: Marks,
+    landmarks: Landmarks,
     code: [u8; 4],
     around: Context,
     seen: Seen,
@@ -105,7 +105,7 @@ pub fn first_broken(
     rows: &[[u16; 3]],
     rules: &[u8],
 ) -> Edit
-    ensures { λ r. ⌜ findingOf r ≡ fieldsTest (record { marks = marks; code = code; here = around; seen = seen }) (capitals (now (line .entry))) (now (rows .entry)) (now (rules .entry)) ⌝ }
+    ensures { λ r. ⌜ findingOf r ≡ fieldsTest (record { landmarks = landmarks; code = code; here = around; seen = seen }) (capitals (now (line .entry))) (now (rows .entry)) (now (rules .entry)) ⌝ }
 {
     let mut found = Edit::Passed;
     let mut k = 0;
@@ -130,7 +130,7 @@ pub fn first_broken(
             at += 1;
         }
         let rule = rule_of(number_at(rules, k));
-        let e = rules_edit(marks, code, around, seen, line, class, rule, first, last);
+        let e = rules_edit(landmarks, code, around, seen, line, class, rule, first, last);
         if let Edit::Broken(_, _) = e {
             found = e;
             break 'fields;

@@ -70,7 +70,7 @@ pub struct Seen {
 }
 
 // The columns of a record that the rules of its other fields look at; 0 where it has no such field.
-pub struct Marks {
+pub struct Landmarks {
     pub year_first: u16,
     pub year_last: u16,
     pub period_first: u16,

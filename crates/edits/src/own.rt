@@ -1,14 +1,13 @@
 // The rules of a field that look at its own record alone, behind its class test.
-use crate::Marks;
+use crate::Landmarks;
 use field::class::Class;
 use number::Number;
-use number::rules;
 use reason::Edit;
 use reason::Reason;
 use text::address;
 ghost use mathlib.Core.Path.{_≡_};
 ghost use Rattle.laws.specs.Finding.{findingIn};
-ghost use Rattle.reason.specs.Numbers.{findingOf, numberOf};
+ghost use Rattle.reason.specs.ReasonNumbers.{findingOf, numberOf};
 ghost use Rattle.number.specs.Numbers.{readingOf};
 ghost use Rattle.chars.specs.Characters.{capitals};
 ghost use Rattle.chars.specs.Columns.{unless};
@@ -36,21 +35,21 @@ fn edit_in(n: Number) -> Edit
 }
 
 // Whether the return is the final one.
-pub fn is_final(marks: Marks, line: &[u8]) -> bool
-    ensures { λ r. ⌜ r ≡ isFinal marks (capitals (now (line .entry))) ⌝ }
+pub fn is_final(landmarks: Landmarks, line: &[u8]) -> bool
+    ensures { λ r. ⌜ r ≡ isFinal landmarks (capitals (now (line .entry))) ⌝ }
 {
-    let column = marks.final_flag;
+    let column = landmarks.final_flag;
     number::value_in(line, column, column) != 0
 }
 
-fn cease_edit(marks: Marks, line: &[u8], first: u16, last: u16) -> Edit
-    ensures { λ r. ⌜ findingOf r ≡ ceaseTest marks (capitals (now (line .entry))) first last ⌝ }
+fn cease_edit(landmarks: Landmarks, line: &[u8], first: u16, last: u16) -> Edit
+    ensures { λ r. ⌜ findingOf r ≡ ceaseTest landmarks (capitals (now (line .entry))) first last ⌝ }
 {
     let n = number::read_number(line, first, last);
     let Number::Value(date) = n else {
         return edit_in(n);
     };
-    if is_final(marks, line) {
+    if is_final(landmarks, line) {
         if date == 0 {
             return Edit::Broken(first, Reason::DateMissing);
         }
@@ -59,10 +58,10 @@ fn cease_edit(marks: Marks, line: &[u8], first: u16, last: u16) -> Edit
     unless(date == 0, first, Reason::DateNotFinal)
 }
 
-fn third_quarter_edit(marks: Marks, line: &[u8], first: u16) -> Edit
-    ensures { λ r. ⌜ findingOf r ≡ thirdQuarterTest marks (capitals (now (line .entry))) first ⌝ }
+fn third_quarter_edit(landmarks: Landmarks, line: &[u8], first: u16) -> Edit
+    ensures { λ r. ⌜ findingOf r ≡ thirdQuarterTest landmarks (capitals (now (line .entry))) first ⌝ }
 {
-    if number::value_in(line, marks.period_first, marks.period_last) == 9 {
+    if number::value_in(line, landmarks.period_first, landmarks.period_last) == 9 {
         return edit_in(rules::read_flag(line, first));
     }
     Edit::Passed
@@ -70,14 +69,14 @@ fn third_quarter_edit(marks: Marks, line: &[u8], first: u16) -> Edit
 
 // The own rules of a field, behind its class test.
 pub fn own_edit(
-    marks: Marks,
+    landmarks: Landmarks,
     code: [u8; 4],
     class: Class,
     line: &[u8],
     first: u16,
     last: u16,
 ) -> Edit
-    ensures { λ r. ⌜ findingOf r ≡ ownRest marks code class (capitals (now (line .entry))) first last ⌝ }
+    ensures { λ r. ⌜ findingOf r ≡ ownRest landmarks code class (capitals (now (line .entry))) first last ⌝ }
 {
     match class {
         Class::Ignored => Edit::Passed,
@@ -86,22 +85,22 @@ pub fn own_edit(
         Class::Numeric => Edit::Passed,
         Class::AccountNumber => Edit::Passed,
         Class::Flag => edit_in(rules::read_flag(line, first)),
-        Class::ThirdQuarterFlag => third_quarter_edit(marks, line, first),
+        Class::ThirdQuarterFlag => third_quarter_edit(landmarks, line, first),
         Class::Period => edit_in(rules::read_period(line, first, last)),
         Class::RequiredText => Edit::Passed,
         Class::OptionalText => Edit::Passed,
         Class::PersonName => Edit::Passed,
         Class::EntityCode => text::entity_edit(code, line, first),
         Class::StateCode => address::state_edit(address::region_in(line, first), first),
-        Class::ZipCode => address::zip_edit(address::region_in(line, marks.state), line, first),
+        Class::ZipCode => address::zip_edit(address::region_in(line, landmarks.state), line, first),
         Class::ZipExtension => address::extension_edit(
-            address::region_in(line, marks.state),
+            address::region_in(line, landmarks.state),
             line,
             first,
         ),
         Class::TaxYear => edit_in(rules::read_year(line, first, last)),
         Class::EmployerFein => edit_in(rules::read_fein(line, first, last)),
         Class::IdentityNumber => edit_in(rules::read_identity(line, first, last)),
-        Class::CeaseDate => cease_edit(marks, line, first, last),
+        Class::CeaseDate => cease_edit(landmarks, line, first, last),
     }
 }

@@ -1,6 +1,6 @@
 // The rules of a field that look at other records, at the quarter held or at the room that is left.
 use crate::Context;
-use crate::Marks;
+use crate::Landmarks;
 use crate::Rule;
 use crate::Seen;
 use crate::format;
@@ -11,18 +11,18 @@ use reason::Edit;
 use reason::Reason;
 ghost use mathlib.Core.Path.{_≡_};
 ghost use Rattle.calendar.specs.Quarters.{mustBeFinal};
-ghost use Rattle.reason.specs.Numbers.{findingOf};
+ghost use Rattle.reason.specs.ReasonNumbers.{findingOf};
 ghost use Rattle.chars.specs.Characters.{capitals};
 ghost use Rattle.edits.specs.Edit.{firstBroken};
 ghost use Rattle.edits.specs.WithContext.{quarterOn, quarterInTime, feinNew, identityNew, countOfS, dateInQuarter, finalIfCurrent, ruleEdits, withContext};
 
 // The year and the period of the record.
-fn quarter_on(marks: Marks, line: &[u8]) -> Quarter
-    ensures { λ r. ⌜ r ≡ quarterOn marks (capitals (now (line .entry))) ⌝ }
+fn quarter_on(landmarks: Landmarks, line: &[u8]) -> Quarter
+    ensures { λ r. ⌜ r ≡ quarterOn landmarks (capitals (now (line .entry))) ⌝ }
 {
     Quarter {
-        year: number::value_in(line, marks.year_first, marks.year_last),
-        month: number::value_in(line, marks.period_first, marks.period_last),
+        year: number::value_in(line, landmarks.year_first, landmarks.year_last),
+        month: number::value_in(line, landmarks.period_first, landmarks.period_last),
     }
 }
 
@@ -107,14 +107,14 @@ fn final_if_current(timing: Timing, v: u64, first: u16) -> Edit
 // The edits of a rule in order; v is the field's value.
 fn rule_edit(
     rule: Rule,
-    marks: Marks,
+    landmarks: Landmarks,
     around: Context,
     seen: Seen,
     line: &[u8],
     first: u16,
     v: u64,
 ) -> Edit
-    ensures { λ r. ⌜ findingOf r ≡ firstBroken (ruleEdits rule marks around seen (capitals (now (line .entry))) first v) ⌝ }
+    ensures { λ r. ⌜ findingOf r ≡ firstBroken (ruleEdits rule landmarks around seen (capitals (now (line .entry))) first v) ⌝ }
 {
     let held = format::quarter_held(around.held);
     let filed = around.filed;
@@ -128,14 +128,14 @@ fn rule_edit(
             Reason::YearTooLate,
         ),
         Rule::QuarterInTime => quarter_in_time(
-            calendar::timing_of(held, quarter_on(marks, line)),
+            calendar::timing_of(held, quarter_on(landmarks, line)),
             first,
         ),
         Rule::YearOfA => own::unless(v == filed.year, first, Reason::YearNotOfA),
         Rule::PeriodOfA => own::unless(v == filed.month, first, Reason::PeriodNotOfA),
         Rule::FeinNew => fein_new(seen.fein, around.list_full, first),
         Rule::FeinOfE => own::unless(v == open.fein, first, Reason::FeinNotOfE),
-        Rule::DateInQuarter => date_in_quarter(own::is_final(marks, line), v, filed, first),
+        Rule::DateInQuarter => date_in_quarter(own::is_final(landmarks, line), v, filed, first),
         Rule::IdentityNew => identity_new(v, seen.id, around.ids_full, first),
         Rule::CountOfS => count_of_s(v, open.count, open.follow, first),
         Rule::WagesOfS => own::unless(v == open.sum, first, Reason::WagesNotOfS),
@@ -149,21 +149,21 @@ fn rule_edit(
 // A field held against its context. Most fields have no rule, and their value is not read.
 pub fn context_edit(
     rule: Rule,
-    marks: Marks,
+    landmarks: Landmarks,
     around: Context,
     seen: Seen,
     line: &[u8],
     first: u16,
     last: u16,
 ) -> Edit
-    ensures { λ r. ⌜ findingOf r ≡ firstBroken (withContext rule marks around seen (capitals (now (line .entry))) first last) ⌝ }
+    ensures { λ r. ⌜ findingOf r ≡ firstBroken (withContext rule landmarks around seen (capitals (now (line .entry))) first last) ⌝ }
 {
     if let Rule::Nothing = rule {
         return Edit::Passed;
     }
     rule_edit(
         rule,
-        marks,
+        landmarks,
         around,
         seen,
         line,

@@ -7,11 +7,11 @@ use lib.Dec.{eqb}
 use lib.ListN.{length, drop}
 use borrow.Author.Tests.{eq-eqb, ne-eqb}
 use Rattle.laws.specs.Choice.{if_then_else_}
-use Rattle.reason.specs.Numbers.{Notice}
+use Rattle.reason.specs.ReasonNumbers.{Notice}
 use Rattle.lines.specs.Lines.{firstLine}
 use Rattle.edits.specs.declared.Phase.the-variants.{EOpen}
 use Rattle.chars.specs.Characters.{capitals}
-use Rattle.record.specs.Formats.{shapeOf}
+use Rattle.record.specs.ShapeOf.{shapeOf}
 use Rattle.record.specs.Judge.{seenOn}
 use Rattle.plain.specs.Laws.{long-enough}
 use Rattle.plain.specs.Plain.{lowest, highest}

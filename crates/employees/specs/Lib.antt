@@ -2,6 +2,6 @@ pub mod Runs
 pub mod Marks
 pub mod RunLaws
 pub mod MarkLaws
-pub mod TurnLaws
+pub mod RunTurnLaws
 pub mod Carries
 pub mod Once

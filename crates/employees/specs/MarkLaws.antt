@@ -15,7 +15,7 @@ use lib.Pow.{pow-pos}
 use lib.Seq.{lt-length-set, take-suc, take-set-le, getD-set-same, getD-set-other}
 use borrow.Author.Tests.{eqb-true, eqb-false, eq-eqb, leb-false, le-leb, lt-leb}
 use Rattle.tables.specs.Laws.{among-none}
-use Rattle.tables.specs.Steps.{among-more, take-least}
+use Rattle.tables.specs.TableSteps.{among-more, take-least}
 use Rattle.tables.specs.Tables.{isAmong}
 use Rattle.laws.specs.Choice.{if_then_else_}
 use Rattle.plain.specs.declared.Sighted.{Sighted}

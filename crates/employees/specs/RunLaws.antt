@@ -24,7 +24,7 @@ use Rattle.shape.specs.Limits.{mostEmployees}
 use Rattle.shape.specs.Shape.{passed}
 use Rattle.shape.specs.declared.Said.{Said}
 use Rattle.pfml.specs.Fitness.{mostLines}
-use Rattle.record.specs.Formats.{shapeOf}
+use Rattle.record.specs.ShapeOf.{shapeOf}
 use Rattle.record.specs.Judge.{judgeAmong, seenOn}
 use Rattle.record.specs.Laws.{judged-bounded, more-kept}
 use Rattle.plain.specs.Laws.{plain-passes}

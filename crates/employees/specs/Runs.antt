@@ -6,7 +6,7 @@ use mathlib.Core.List.{List}
 use lib.Dec.{eqb, ltb}
 use lib.ListN.{length, take, drop}
 use Rattle.laws.specs.Choice.{if_then_else_}
-use Rattle.reason.specs.Numbers.{Notice}
+use Rattle.reason.specs.ReasonNumbers.{Notice}
 use Rattle.edits.specs.Formats.{isPfml}
 use Rattle.shape.specs.Limits.{mostEmployees}
 use Rattle.shape.specs.declared.Said.{Said}

@@ -3,7 +3,7 @@ use chars::columns;
 use chars::columns::Allowed;
 use reason::Edit;
 ghost use mathlib.Core.Path.{_≡_};
-ghost use Rattle.reason.specs.Numbers.{findingOf};
+ghost use Rattle.reason.specs.ReasonNumbers.{findingOf};
 ghost use Rattle.chars.specs.Characters.{capitals};
 ghost use Rattle.field.specs.Classes.{classOf};
 ghost use Rattle.field.specs.ClassTests.{leadTest, allowedIn, classTest};

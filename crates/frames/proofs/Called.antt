@@ -7,7 +7,7 @@ use denote.Enum.Laws as EL
 use Rattle.by_hand.proofs.Walk.{URA, Heap, Atoms, Given, Memory, Routine, Fun, SProp, emp, id⊢, w64, vunit, vint, nothing-tells, uint-tells, Callee, total}
 use Rattle.state.specs.Walks.{walkOf}
 use Rattle.frames.specs.Frames.{employerFrame, employerFrames, framedBy, framing}
-use Rattle.frames.specs.Parts.{employersFramed, lastFraming}
+use Rattle.frames.specs.FrameParts.{employersFramed, lastFraming}
 use Rattle.frames.specs.Pasted.{pasted}
 use Rattle.frames.proofs.Framed as F
 use Rattle.frames.proofs.Framed.Laws as F′

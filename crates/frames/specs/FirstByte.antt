@@ -4,7 +4,7 @@ use mathlib.Core.List.{List, [], _∷_}
 use mathlib.Core.Path.{_≡_, refl, sym, ap, _∙_}
 use native.Mathlib.Omega.{arith}
 use lib.ListN.{getD}
-use Rattle.reason.specs.Numbers.{Notice}
+use Rattle.reason.specs.ReasonNumbers.{Notice}
 use Rattle.edits.specs.declared.Totals.{Totals}
 use Rattle.tables.specs.declared.Employer.{Employer}
 use Rattle.meaning.specs.Meaning.{accepted, refused}

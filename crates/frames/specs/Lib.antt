@@ -4,5 +4,5 @@ pub mod HexLaws
 pub mod Frames
 pub mod FrameLaws
 pub mod FirstByte
-pub mod Parts
+pub mod FrameParts
 pub mod Once

@@ -4,7 +4,7 @@ use mathlib.Core.Path.{_≡_, refl, sym, _∙_}
 use native.Mathlib.Nat.{add-zero}
 use native.Mathlib.Omega.{arith}
 use Rattle.laws.specs.Finding.{Finding, fine, broken, orElse, firstOf}
-use Rattle.laws.specs.Steps.{left-suc, left-none}
+use Rattle.laws.specs.LoopSteps.{left-suc, left-none}
 
 -- ---- a loop's steps
 module _ (edit : ℕ → Finding) (i end : ℕ) where
@@ -59,10 +59,10 @@ module _ (edit : ℕ → Finding) where
       }
 
   -- A broken answer is the first broken edit.
-  pub first-is-first : (n i column number : ℕ) → firstOf edit i n ≡ broken column number → IsFirst edit i n column number
+  pub first-of-first : (n i column number : ℕ) → firstOf edit i n ≡ broken column number → IsFirst edit i n column number
   unfolding firstOf
-  first-is-first zero i c number e = absurd (not-broken c number e)
-  first-is-first (suc n) i c number e = here-first i n c number (edit i) refl e (first-is-first n (i + 1) c number)
+  first-of-first zero i c number e = absurd (not-broken c number e)
+  first-of-first (suc n) i c number e = here-first i n c number (edit i) refl e (first-of-first n (i + 1) c number)
 
   all-from : (i n : ℕ) (f : Finding) → edit i ≡ f → orElse f (firstOf edit (i + 1) n) ≡ fine
       → (firstOf edit (i + 1) n ≡ fine → (k : ℕ) → k < n → edit (i + 1 + k) ≡ fine) → (k : ℕ) → k < suc n → edit (i + k) ≡ fine

@@ -3,6 +3,6 @@ pub mod Finding
 pub mod First
 pub mod Labelled
 pub mod Lists
-pub mod Steps
+pub mod LoopSteps
 pub mod Table
-pub mod Text
+pub mod Spelling

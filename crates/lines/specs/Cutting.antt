@@ -4,7 +4,7 @@ use lib.Dec.{eqb}
 use lib.ListN.{length}
 use Rattle.laws.specs.Choice.{if_then_else_}
 use Rattle.laws.specs.Finding.{Finding, fine, broken, Reading, value, refused}
-use Rattle.reason.specs.Numbers.{numberOf}
+use Rattle.reason.specs.ReasonNumbers.{numberOf}
 use Rattle.lines.specs.Lines.{Line, sizeOf}
 use Rattle.lines.specs.declared.Cut.{Cut}
 use Rattle.lines.specs.declared.Cut.the-variants.{Taken, Refused}

@@ -1,11 +1,11 @@
 pub mod Lines
 pub mod Cutting
 pub mod Laws
-pub mod Outcomes
+pub mod CutOutcomes
 pub mod Window
 pub mod Once
 pub mod Changed
-pub mod Hidden
-pub mod HiddenLaws
-pub mod Ends
+pub mod HiddenPlaces
+pub mod HiddenPlaceLaws
+pub mod MadeLines
 pub mod Looking

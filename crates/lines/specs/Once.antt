@@ -1,9 +1,9 @@
 -- The promise of a cut leaves room for one answer.
 use mathlib.Core.Path.{_≡_, sym}
-use Rattle.reason.specs.Numbers.{numberOf}
+use Rattle.reason.specs.ReasonNumbers.{numberOf}
 use Rattle.reason.specs.Once.{same-number}
 use Rattle.lines.specs.Cutting.{cutOf}
-use Rattle.lines.specs.Outcomes.{not-taken}
+use Rattle.lines.specs.CutOutcomes.{not-taken}
 use Rattle.lines.specs.declared.Cut.{Cut}
 use Rattle.lines.specs.declared.Cut.the-variants.{Taken, Refused}
 

@@ -13,7 +13,7 @@ use lib.Seq.{take-all, take-nil}
 use Rattle.laws.specs.Choice.{if_then_else_}
 use Rattle.lines.specs.Cutting.{cutting}
 use Rattle.lines.specs.Lines.{isEnd, textOf, endOf, firstLine}
-use Rattle.lines.specs.Outcomes.{too-long}
+use Rattle.lines.specs.CutOutcomes.{too-long}
 
 -- ---- a part in front of the bytes
 text-take : (m : ℕ) (s : List ℕ) → textOf (take m s) ≡ take m (textOf s)

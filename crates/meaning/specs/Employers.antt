@@ -7,7 +7,7 @@ use native.Mathlib.Nat.{zero-add, add-zero}
 use native.Mathlib.Omega.{arith}
 use lib.ListN.{length}
 use lib.Seq.{append-snoc}
-use Rattle.reason.specs.Numbers.{notice}
+use Rattle.reason.specs.ReasonNumbers.{notice}
 use Rattle.lines.specs.Lines.{Line, linesOf, sizeOf}
 use Rattle.edits.specs.Counted.{openWith}
 use Rattle.edits.specs.declared.Open.{Open}
@@ -19,7 +19,7 @@ use Rattle.record.specs.Laws.{passed-size, passed-fits}
 use Rattle.shape.specs.Shape.{Judged, refusal, passed}
 use Rattle.record.specs.Judge.{recordOn}
 use Rattle.shape.specs.Fits.{Fits}
-use Rattle.shape.specs.EndLaws.{endTest, end-parts}
+use Rattle.shape.specs.EndOfInputLaws.{endTest, end-parts}
 use Rattle.shape.specs.declared.EmployeeOn.{EmployeeOn}
 use Rattle.shape.specs.declared.EmployerOn.{EmployerOn}
 use Rattle.shape.specs.declared.Said.{Said}

@@ -4,7 +4,7 @@ use mathlib.Core.List.{List, [], _∷_, _++_, map, reverseAux, append-nil}
 use mathlib.Core.Path.{_≡_, refl, sym, ap, _∙_}
 use lib.ListN.{length}
 use Rattle.laws.specs.Finding.{Finding, fine, broken, orElse}
-use Rattle.reason.specs.Numbers.{notice}
+use Rattle.reason.specs.ReasonNumbers.{notice}
 use Rattle.lines.specs.Lines.{Line, sizeOf}
 use Rattle.edits.specs.Edit.{Edit, firstBroken}
 use Rattle.edits.specs.EditLaws.{first-cons, first-none}
@@ -13,7 +13,7 @@ use Rattle.edits.specs.declared.format.Format.{Format}
 use Rattle.record.specs.Laws.{judge-says, passed-size}
 use Rattle.shape.specs.Shape.{refusal, passed, verdictBy}
 use Rattle.record.specs.Judge.{recordOn}
-use Rattle.shape.specs.Ends.{endEdits}
+use Rattle.shape.specs.EndOfInput.{endEdits}
 use Rattle.shape.specs.Theorems.{not-passed}
 use Rattle.shape.specs.declared.Said.{Said}
 use Rattle.tables.specs.Room.{Room}

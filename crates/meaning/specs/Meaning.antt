@@ -5,7 +5,7 @@ use mathlib.Core.List.{List, [], _∷_, _++_}
 use lib.Dec.{leb}
 use lib.ListN.{length}
 use Rattle.laws.specs.Finding.{Finding, fine, broken}
-use Rattle.reason.specs.Numbers.{Notice, notice}
+use Rattle.reason.specs.ReasonNumbers.{Notice, notice}
 use Rattle.lines.specs.Lines.{Line, linesOf}
 use Rattle.edits.specs.Edit.{Edit}
 use Rattle.edits.specs.declared.Context.{Context}
@@ -14,7 +14,7 @@ use Rattle.edits.specs.declared.format.Format.{Format}
 use Rattle.edits.specs.declared.Totals.{Totals}
 use Rattle.shape.specs.Shape.{Judged}
 use Rattle.record.specs.Judge.{recordOn, editsAmong, judgeAmong}
-use Rattle.shape.specs.Ends.{endEdits}
+use Rattle.shape.specs.EndOfInput.{endEdits}
 use Rattle.shape.specs.declared.Said.{Said}
 use Rattle.tables.specs.Tables.{isAmong}
 use Rattle.tables.specs.Room.{Room, entriesUsed}

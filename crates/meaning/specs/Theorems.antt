@@ -5,7 +5,7 @@ use mathlib.Core.Path.{_≡_, refl, sym, ap}
 use native.Mathlib.Omega.{arith}
 use lib.ListN.{length}
 use Rattle.laws.specs.Finding.{Finding, fine, broken}
-use Rattle.reason.specs.Numbers.{Notice, notice}
+use Rattle.reason.specs.ReasonNumbers.{Notice, notice}
 use Rattle.lines.specs.Lines.{Line, linesOf}
 use Rattle.edits.specs.Edit.{Edit}
 use Rattle.edits.specs.Labels.{ByLabel, AllLabelled, labelled-append, labelled-first}
@@ -13,7 +13,7 @@ use Rattle.edits.specs.declared.Opening.{Opening}
 use Rattle.edits.specs.declared.Totals.{Totals}
 use Rattle.record.specs.Judge.{recordOn}
 use Rattle.record.specs.Laws.{line-labelled}
-use Rattle.shape.specs.EndLaws.{end-labelled}
+use Rattle.shape.specs.EndOfInputLaws.{end-labelled}
 use Rattle.shape.specs.declared.Said.{Said}
 use Rattle.tables.specs.Room.{Room}
 use Rattle.tables.specs.declared.Employer.{Employer}

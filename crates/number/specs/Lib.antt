@@ -1,7 +1,5 @@
 pub mod Numbers
 pub mod NumberLaws
-pub mod ColumnLaws
-pub mod Rules
-pub mod RuleLaws
+pub mod NumberColumnLaws
 pub mod Once
 pub mod AsItStands

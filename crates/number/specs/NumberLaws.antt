@@ -12,7 +12,7 @@ use lib.Seq.{getD-set-same, getD-set-other, getD-take}
 use borrow.Author.Tests.{lt-ltb, le-ltb, ne-eqb}
 use Rattle.laws.specs.Choice.{if_then_else_}
 use Rattle.laws.specs.Finding.{Finding, fine, broken, orElse, firstOf, Reading, value, refused, findingIn}
-use Rattle.laws.specs.Steps.{left-suc, left-none}
+use Rattle.laws.specs.LoopSteps.{left-suc, left-none}
 use Rattle.chars.specs.Characters.{capitals, isDigit}
 use Rattle.chars.specs.Agree.{Agree}
 use Rattle.chars.specs.CharacterLaws.{capital-at, capital-is-digit, capital-of-digit, digit-range, digit-is}

@@ -6,7 +6,7 @@ use lib.Dec.{eqb, ltb}
 use lib.ListN.{getD, set}
 use Rattle.laws.specs.Choice.{if_then_else_}
 use Rattle.laws.specs.Finding.{Reading, value, refused}
-use Rattle.reason.specs.Numbers.{numberOf}
+use Rattle.reason.specs.ReasonNumbers.{numberOf}
 use Rattle.chars.specs.Characters.{isDigit}
 use Rattle.chars.specs.Columns.{widthOf}
 use Rattle.number.specs.declared.Number.{Number}

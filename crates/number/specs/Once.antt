@@ -3,7 +3,7 @@ use Prim.Native.Nat.{ℕ}
 use mathlib.Core.Path.{_≡_, sym}
 use native.Mathlib.Omega.{arith}
 use Rattle.laws.specs.Finding.{value, refused}
-use Rattle.reason.specs.Numbers.{numberOf}
+use Rattle.reason.specs.ReasonNumbers.{numberOf}
 use Rattle.reason.specs.Once.{same-number}
 use Rattle.number.specs.Numbers.{readingOf}
 use Rattle.number.specs.declared.Number.{Number}

@@ -1,5 +1,4 @@
 // A number read from a field, and written into one.
-pub mod rules;
 
 use reason::Reason;
 ghost use mathlib.Core.Path.{_≡_};

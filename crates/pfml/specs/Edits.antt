@@ -1,16 +1,16 @@
 -- The edits of a text in the stated order.
 use Prim.Native.Nat.{ℕ}
 use mathlib.Core.List.{List, [], _∷_, _++_}
-use Rattle.laws.specs.Text.{bytes}
+use Rattle.laws.specs.Spelling.{bytes}
 use Rattle.chars.specs.declared.columns.Allowed.the-variants.{Permitted}
 use Rattle.pfml_fields.specs.Fields.{fieldsOfA, fieldsOfE, fieldsOfS, fieldsOfT, fieldsOfF}
-use Rattle.pfml_fields.specs.Rules.{rulesOfA, rulesOfE, rulesOfS, rulesOfT, rulesOfF}
+use Rattle.pfml_fields.specs.FieldRules.{rulesOfA, rulesOfE, rulesOfS, rulesOfT, rulesOfF}
 use Rattle.edits.specs.Edit.{Edit, rule, eachColumn}
-use Rattle.edits.specs.Fields.{Around}
-use Rattle.edits.specs.Lists.{fieldEdits}
+use Rattle.edits.specs.RuleNumbers.{Around}
+use Rattle.edits.specs.FieldEdits.{fieldEdits}
 use Rattle.edits.specs.declared.Context.{Context}
 use Rattle.edits.specs.declared.Seen.{Seen}
-use Rattle.pfml.specs.Kinds.{kindOn, marksOf, isKnown}
+use Rattle.pfml.specs.Kinds.{kindOn, landmarksOf, isKnown}
 use Rattle.pfml.specs.Place.{placeEdits, countEdit}
 use Rattle.pfml.specs.declared.kind.Kind.{Kind}
 use Rattle.pfml.specs.declared.kind.Kind.the-variants.{Transmitter, Employer, Employee, Total, Final, Unknown}
@@ -34,7 +34,7 @@ rulesFor Unknown = []
 
 -- "The entity code is PFML"
 abbrev pub around : Context → Seen → Kind → Around
-around here seen kind = record { marks = marksOf kind; code = bytes "PFML"; here = here; seen = seen }
+around here seen kind = record { landmarks = landmarksOf kind; code = bytes "PFML"; here = here; seen = seen }
 
 -- The place rules, "Then an S beyond 100,000 gives 61, column 1."
 abbrev pub placedEdits : Context → Kind → List Edit

@@ -9,7 +9,7 @@ use Rattle.laws.specs.Finding.{fine, findingIn}
 use Rattle.calendar.specs.Quarters.{isFilingYear}
 use Rattle.chars.specs.declared.columns.Allowed.the-variants.{Blanks, OfNames}
 use Rattle.number.specs.Numbers.{valueIn}
-use Rattle.number.specs.Rules.{periodIn, mayBeFiled}
+use Rattle.rules.specs.Rules.{periodIn, mayBeFiled}
 use Rattle.text.specs.Text.{allBlank, isIndented, entityTest}
 use Rattle.field.specs.Classes.{class-again}
 use Rattle.field.specs.declared.class.Class.the-variants.{RecordLetter, BlankSpace, Numeric, PersonName, EntityCode, TaxYear, IdentityNumber, Period}
@@ -17,9 +17,9 @@ use Rattle.pfml_fields.specs.Fields.{fieldsOfS}
 use Rattle.pfml_fields.specs.Rows.{rows-of-S}
 use Rattle.edits.specs.Edit.{Edit, atFirst, rule, eachColumn, firstBroken}
 use Rattle.edits.specs.EditLaws.{first-one, first-append}
-use Rattle.edits.specs.Fields.{Around, rule-again}
-use Rattle.edits.specs.Lists.{fieldEdits}
-use Rattle.edits.specs.ListLaws.{none-listed, fields-cons}
+use Rattle.edits.specs.RuleNumbers.{Around, rule-again}
+use Rattle.edits.specs.FieldEdits.{fieldEdits}
+use Rattle.edits.specs.FieldEditLaws.{none-listed, fields-cons}
 use Rattle.edits.specs.Own.{digitsEdit}
 use Rattle.edits.specs.declared.Context.{Context}
 use Rattle.edits.specs.declared.Phase.the-variants.{EOpen}
@@ -28,7 +28,7 @@ use Rattle.pfml.specs.Edits.{placedEdits}
 use Rattle.pfml.specs.Place.{placeEdits, countEdit}
 use Rattle.shape.specs.Limits.{mostEmployees}
 use Rattle.pfml.specs.PlaceTables.{place-parts}
-use Rattle.pfml_fields.specs.Rules.{rulesOfS}
+use Rattle.pfml_fields.specs.FieldRules.{rulesOfS}
 use Rattle.pfml.specs.declared.kind.Kind.the-variants.{Employee}
 
 abbrev blankEdit : List ℕ → ℕ → ℕ → Edit

@@ -7,7 +7,7 @@ use Rattle.pfml.specs.Says.{says}
 
 -- The letters A, E, S, T and F: `kindOf` (Kinds). The 72 fields, class beside first and last column: `fieldsOfA` .. `fieldsOfF` (crate pfml_fields, Fields),
 -- and beside them the rules of the context: `rulesOfA` .. `rulesOfF` (there, Rules). What a class and a rule ask is the same in every format: `own` and
--- `ruleEdits` (crate edits, Own and WithContext). The columns that rules of other fields look at: `marksOf` (Kinds). Place and 61: `placeEdits`, `countEdit`
+-- `ruleEdits` (crate edits, Own and WithContext). The columns that rules of other fields look at: `landmarksOf` (Kinds). Place and 61: `placeEdits`, `countEdit`
 -- (Place). All of these in the stated order: `editsOn` (Edits).
 --
 -- Of what the machine can count for a format PFML has no part: no S record says a second amount (`second` is 0, so both second sums stay 0), no record but S

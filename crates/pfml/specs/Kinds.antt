@@ -5,7 +5,7 @@ use mathlib.Core.List.{List}
 use lib.Dec.{eqb}
 use lib.ListN.{getD}
 use Rattle.laws.specs.Choice.{if_then_else_}
-use Rattle.edits.specs.declared.Marks.{Marks}
+use Rattle.edits.specs.declared.Landmarks.{Landmarks}
 use Rattle.pfml.specs.declared.kind.Kind.{Kind}
 use Rattle.pfml.specs.declared.kind.Kind.the-variants.{Transmitter, Employer, Employee, Total, Final, Unknown}
 
@@ -34,13 +34,13 @@ placeInOrder Unknown = 5
 
 -- The columns that the rules of other fields look at: year and period for the period test, the state for ZIP and extension, E's period
 -- for 191, E's 282 for the cease date.
-abbrev pub marksOf : Kind → Marks
-marksOf Transmitter = record { «year_first» = 2; «year_last» = 5; «period_first» = 19; «period_last» = 20; state = 139; «final_flag» = 0 }
-marksOf Employer = record { «year_first» = 2; «year_last» = 5; «period_first» = 188; «period_last» = 189; state = 139; «final_flag» = 282 }
-marksOf Employee = record { «year_first» = 0; «year_last» = 0; «period_first» = 0; «period_last» = 0; state = 0; «final_flag» = 0 }
-marksOf Total = record { «year_first» = 0; «year_last» = 0; «period_first» = 0; «period_last» = 0; state = 0; «final_flag» = 0 }
-marksOf Final = record { «year_first» = 0; «year_last» = 0; «period_first» = 0; «period_last» = 0; state = 0; «final_flag» = 0 }
-marksOf Unknown = record { «year_first» = 0; «year_last» = 0; «period_first» = 0; «period_last» = 0; state = 0; «final_flag» = 0 }
+abbrev pub landmarksOf : Kind → Landmarks
+landmarksOf Transmitter = record { «year_first» = 2; «year_last» = 5; «period_first» = 19; «period_last» = 20; state = 139; «final_flag» = 0 }
+landmarksOf Employer = record { «year_first» = 2; «year_last» = 5; «period_first» = 188; «period_last» = 189; state = 139; «final_flag» = 282 }
+landmarksOf Employee = record { «year_first» = 0; «year_last» = 0; «period_first» = 0; «period_last» = 0; state = 0; «final_flag» = 0 }
+landmarksOf Total = record { «year_first» = 0; «year_last» = 0; «period_first» = 0; «period_last» = 0; state = 0; «final_flag» = 0 }
+landmarksOf Final = record { «year_first» = 0; «year_last» = 0; «period_first» = 0; «period_last» = 0; state = 0; «final_flag» = 0 }
+landmarksOf Unknown = record { «year_first» = 0; «year_last» = 0; «period_first» = 0; «period_last» = 0; state = 0; «final_flag» = 0 }
 
 abbrev pub isKnown : Kind → Bool
 isKnown Unknown = false

@@ -12,9 +12,9 @@ use Rattle.field.specs.Classes.{class-again}
 use Rattle.field.specs.declared.class.Class.the-variants.{RecordLetter, BlankSpace, Numeric, AccountNumber, Flag, ThirdQuarterFlag, Period, RequiredText, OptionalText, PersonName, EntityCode, StateCode, ZipCode, ZipExtension, TaxYear, EmployerFein, IdentityNumber, CeaseDate}
 use Rattle.pfml_fields.specs.Fields.{fieldsOfA, fieldsOfE, fieldsOfS, fieldsOfT, fieldsOfF}
 use Rattle.edits.specs.Edit.{Edit}
-use Rattle.edits.specs.Fields.{Around, rule-again}
-use Rattle.edits.specs.Lists.{fieldEdits}
-use Rattle.edits.specs.ListLaws.{none-listed, fields-cons}
+use Rattle.edits.specs.RuleNumbers.{Around, rule-again}
+use Rattle.edits.specs.FieldEdits.{fieldEdits}
+use Rattle.edits.specs.FieldEditLaws.{none-listed, fields-cons}
 use Rattle.edits.specs.declared.Context.{Context}
 use Rattle.edits.specs.declared.Seen.{Seen}
 use Rattle.edits.specs.declared.Rule.the-variants.{Nothing, YearInTime, QuarterInTime, YearOfA, PeriodOfA, FeinNew, FeinOfE, DateInQuarter, IdentityNew, CountOfS, WagesOfS, FileCountOfS, FileCountOfE, FileWagesOfS, FinalIfCurrent}
@@ -22,7 +22,7 @@ use Rattle.pfml.specs.Kinds.{kindOn}
 use Rattle.pfml.specs.Edits.{rowsFor, around, headEdits, textEdits, rulesFor}
 use Rattle.pfml.specs.Format.{pfmlShape}
 use Rattle.shape.specs.Shape.{lineEditsBy}
-use Rattle.pfml_fields.specs.Rules.{rulesOfA, rulesOfE, rulesOfS, rulesOfT, rulesOfF}
+use Rattle.pfml_fields.specs.FieldRules.{rulesOfA, rulesOfE, rulesOfS, rulesOfT, rulesOfF}
 use Rattle.pfml.specs.declared.kind.Kind.{Kind}
 use Rattle.pfml.specs.declared.kind.Kind.the-variants.{Transmitter, Employer, Employee, Total, Final, Unknown}
 

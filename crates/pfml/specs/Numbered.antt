@@ -12,7 +12,7 @@ use Rattle.edits.specs.declared.Context.{Context}
 use Rattle.edits.specs.declared.Seen.{Seen}
 use Rattle.pfml.specs.Edits.{textEdits}
 use Rattle.pfml.specs.Fitness.{isLeft}
-use Rattle.pfml.specs.Labelled.{text-labelled}
+use Rattle.pfml.specs.TextLabelled.{text-labelled}
 use Rattle.pfml.specs.Listed.{numbersOf, numbersOfText, listed-text}
 use Rattle.pfml.specs.declared.kind.Kind.{Kind}
 use Rattle.pfml.specs.declared.kind.Kind.the-variants.{Transmitter, Employer, Employee, Total, Final, Unknown}

@@ -15,18 +15,18 @@ use Rattle.calendar.specs.Laws.{reportable}
 use Rattle.chars.specs.ColumnLaws.{unless-fine}
 use Rattle.number.specs.Numbers.{valueIn}
 use Rattle.number.specs.NumberLaws.{value-below}
-use Rattle.number.specs.RuleLaws.{period-fine}
+use Rattle.rules.specs.RuleLaws.{period-fine}
 use Rattle.field.specs.Classes.{class-again}
 use Rattle.field.specs.declared.class.Class.{Class}
 use Rattle.field.specs.declared.class.Class.the-variants.{Period, TaxYear, EmployerFein, IdentityNumber}
 use Rattle.pfml_fields.specs.Fields.{row, noRow, fieldsOfA, fieldsOfE, fieldsOfS}
 use Rattle.pfml_fields.specs.Rows.{year-of-A, period-of-A, fein-of-E, identity-of-S, fields-of-A, fields-of-E, fields-of-S}
-use Rattle.pfml_fields.specs.Rules.{rulesOfA, rulesOfE, rulesOfS}
+use Rattle.pfml_fields.specs.FieldRules.{rulesOfA, rulesOfE, rulesOfS}
 use Rattle.edits.specs.EditLaws.{AllFine, all-fine, all-append, not-broken}
-use Rattle.edits.specs.Fields.{Around, ruleNumber, rule-again}
+use Rattle.edits.specs.RuleNumbers.{Around, ruleNumber, rule-again}
 use Rattle.edits.specs.Formats.{quarterHeld}
-use Rattle.edits.specs.ListLaws.{field-fine}
-use Rattle.edits.specs.Lists.{fieldEdits}
+use Rattle.edits.specs.FieldEditLaws.{field-fine}
+use Rattle.edits.specs.FieldEdits.{fieldEdits}
 use Rattle.edits.specs.Own.{own}
 use Rattle.edits.specs.WithContext.{withContext}
 use Rattle.edits.specs.declared.Context.{Context}
@@ -98,9 +98,9 @@ place-of-F AfterF follow e = absurd (not-broken _ _ (sym e))
 -- A field of this class and rule breaks none of its own edits and none of the rule's.
 at-row : (a : Around) (text : List ℕ) (rows : List (List ℕ)) (rules : List ℕ) (k : ℕ) (class : Class) (which : Rule) (first last : ℕ)
     → AllFine (fieldEdits a text rows rules) → k < length rows → getD rows k noRow ≡ row class first last → getD rules k 0 ≡ ruleNumber which
-    → AllFine (own (a .marks) (a .code) class text first last) × AllFine (withContext which (a .marks) (a .here) (a .seen) text first last)
+    → AllFine (own (a .landmarks) (a .code) class text first last) × AllFine (withContext which (a .landmarks) (a .here) (a .seen) text first last)
 at-row a text rows rules k class which first last all h this ruled =
-    all-append (own (a .marks) (a .code) class text first last) (withContext which (a .marks) (a .here) (a .seen) text first last)
+    all-append (own (a .landmarks) (a .code) class text first last) (withContext which (a .landmarks) (a .here) (a .seen) text first last)
     (rw (this, ruled, class-again class, rule-again which) at (field-fine a text rows rules all k h))
 
 year-rule : getD rulesOfA 1 0 ≡ ruleNumber YearInTime

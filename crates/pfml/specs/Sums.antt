@@ -8,7 +8,7 @@ use lib.ListN.{length}
 use Rattle.laws.specs.Finding.{fine, Reading, value, refused}
 use Rattle.lines.specs.Cutting.{cutting}
 use Rattle.lines.specs.Lines.{Line}
-use Rattle.lines.specs.Outcomes.{taken-is-size}
+use Rattle.lines.specs.CutOutcomes.{taken-is-size}
 use Rattle.chars.specs.Characters.{capitals}
 use Rattle.chars.specs.Columns.{everyColumn}
 use Rattle.chars.specs.declared.columns.Allowed.the-variants.{Permitted, Blanks}
@@ -20,9 +20,9 @@ use Rattle.pfml_fields.specs.Fields.{fieldsOfT, fieldsOfF}
 use Rattle.pfml_fields.specs.Rows.{rows-of-T, rows-of-F}
 use Rattle.edits.specs.Edit.{Edit, atFirst, rule, eachColumn, firstBroken}
 use Rattle.edits.specs.EditLaws.{AllFine, all-fine, all-append, first-cons, first-one, first-append}
-use Rattle.edits.specs.Fields.{Around, rule-again}
-use Rattle.edits.specs.Lists.{fieldEdits}
-use Rattle.edits.specs.ListLaws.{none-listed, fields-cons}
+use Rattle.edits.specs.RuleNumbers.{Around, rule-again}
+use Rattle.edits.specs.FieldEdits.{fieldEdits}
+use Rattle.edits.specs.FieldEditLaws.{none-listed, fields-cons}
 use Rattle.edits.specs.Own.{digitsEdit}
 use Rattle.edits.specs.declared.Context.{Context}
 use Rattle.edits.specs.declared.Phase.{Phase}
@@ -34,10 +34,10 @@ use Rattle.pfml.specs.Edits.{rowsFor, around, placedEdits, headEdits, te
 use Rattle.pfml.specs.Says.{saidBy}
 use Rattle.shape.specs.Shape.{passed, judgeBy}
 use Rattle.pfml.specs.Format.{pfmlShape}
-use Rattle.pfml.specs.Parts.{head-passes}
+use Rattle.pfml.specs.TextParts.{head-passes}
 use Rattle.pfml.specs.Place.{placeEdits, countEdit}
 use Rattle.pfml.specs.PlaceTables.{placeTest, place-parts}
-use Rattle.pfml_fields.specs.Rules.{rulesOfT, rulesOfF}
+use Rattle.pfml_fields.specs.FieldRules.{rulesOfT, rulesOfF}
 use Rattle.shape.specs.Theorems.{not-passed, accepted-iff, cut-refuses, cut-takes}
 use Rattle.pfml.specs.declared.kind.Kind.{Kind}
 use Rattle.pfml.specs.declared.kind.Kind.the-variants.{Total, Final}

@@ -1,7 +1,7 @@
 // The five records, by their letters.
-use edits::Marks;
+use edits::Landmarks;
 ghost use mathlib.Core.Path.{_≡_};
-ghost use Rattle.pfml.specs.Kinds.{kindOf, placeInOrder, marksOf};
+ghost use Rattle.pfml.specs.Kinds.{kindOf, placeInOrder, landmarksOf};
 
 pub enum Kind {
     // A
@@ -46,10 +46,10 @@ pub fn order_of(kind: Kind) -> usize
     }
 }
 
-fn no_marks() -> Marks
-    ensures { λ r. ⌜ r ≡ marksOf Kind.Unknown ⌝ }
+fn no_landmarks() -> Landmarks
+    ensures { λ r. ⌜ r ≡ landmarksOf Kind.Unknown ⌝ }
 {
-    Marks {
+    Landmarks {
         year_first: 0,
         year_last: 0,
         period_first: 0,
@@ -60,11 +60,11 @@ fn no_marks() -> Marks
 }
 
 // The columns of a record that the rules of its other fields look at.
-pub fn marks_of(kind: Kind) -> Marks
-    ensures { λ r. ⌜ r ≡ marksOf kind ⌝ }
+pub fn landmarks_of(kind: Kind) -> Landmarks
+    ensures { λ r. ⌜ r ≡ landmarksOf kind ⌝ }
 {
     match kind {
-        Kind::Transmitter => Marks {
+        Kind::Transmitter => Landmarks {
             year_first: 2,
             year_last: 5,
             period_first: 19,
@@ -72,7 +72,7 @@ pub fn marks_of(kind: Kind) -> Marks
             state: 139,
             final_flag: 0,
         },
-        Kind::Employer => Marks {
+        Kind::Employer => Landmarks {
             year_first: 2,
             year_last: 5,
             period_first: 188,
@@ -80,9 +80,9 @@ pub fn marks_of(kind: Kind) -> Marks
             state: 139,
             final_flag: 282,
         },
-        Kind::Employee => no_marks(),
-        Kind::Total => no_marks(),
-        Kind::Final => no_marks(),
-        Kind::Unknown => no_marks(),
+        Kind::Employee => no_landmarks(),
+        Kind::Total => no_landmarks(),
+        Kind::Final => no_landmarks(),
+        Kind::Unknown => no_landmarks(),
     }
 }

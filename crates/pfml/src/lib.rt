@@ -7,11 +7,11 @@ pub mod said;
 use chars::columns;
 use chars::columns::Allowed;
 use edits::Context;
-use edits::Marks;
+use edits::Landmarks;
 use edits::Seen;
 use edits::fields;
 use kind::Kind;
-use pfml_fields::rules;
+use pfml_fields::field_rules;
 use reason::Edit;
 use reason::Reason;
 use shape::Asking;
@@ -19,14 +19,14 @@ use shape::Said;
 ghost use mathlib.Core.Path.{_≡_};
 ghost use Prim.Native.Nat.{_-_, _≤_};
 ghost use lib.ListN.{take, drop};
-ghost use Rattle.laws.specs.Text.{bytes};
-ghost use Rattle.reason.specs.Numbers.{findingOf};
+ghost use Rattle.laws.specs.Spelling.{bytes};
+ghost use Rattle.reason.specs.ReasonNumbers.{findingOf};
 ghost use Rattle.chars.specs.Characters.{capitals};
 ghost use Rattle.edits.specs.Edit.{firstBroken};
 ghost use Rattle.edits.specs.Tests.{fieldsTest};
-ghost use Rattle.edits.specs.Lists.{fieldEdits};
+ghost use Rattle.edits.specs.FieldEdits.{fieldEdits};
 ghost use Rattle.pfml_fields.specs.Fields.{fields as allFields};
-ghost use Rattle.pfml_fields.specs.Rules.{rules};
+ghost use Rattle.pfml_fields.specs.FieldRules.{rules};
 ghost use Rattle.shape.specs.Shape.{feinAsked, idAsked};
 ghost use Rattle.pfml.specs.Edits.{rowsFor, rulesFor, around as aroundOf, placedEdits, headEdits, textEdits, editsOn};
 ghost use Rattle.pfml.specs.Says.{says};
@@ -38,7 +38,7 @@ pub const ENTITY: [u8; 4] = *b"PFML";
 
 // The fields from number `from` up to `to`, left out.
 fn fields_between(
-    marks: Marks,
+    landmarks: Landmarks,
     here: Context,
     seen: Seen,
     line: &[u8],
@@ -46,12 +46,12 @@ fn fields_between(
     to: usize,
 ) -> Edit
     requires { ⌜ (from ≤ to) × (to ≤ 72) ⌝ }
-    ensures { λ r. ⌜ findingOf r ≡ fieldsTest (record { marks = marks; code = bytes "PFML"; here = here; seen = seen }) (capitals (now (line .entry))) (take (to - from) (drop from allFields)) (take (to - from) (drop from rules)) ⌝ }
+    ensures { λ r. ⌜ findingOf r ≡ fieldsTest (record { landmarks = landmarks; code = bytes "PFML"; here = here; seen = seen }) (capitals (now (line .entry))) (take (to - from) (drop from allFields)) (take (to - from) (drop from rules)) ⌝ }
 {
     let rows = pfml_fields::all_rows();
-    let rules = rules::all_rules();
+    let rules = field_rules::all_rules();
     fields::first_broken(
-        marks,
+        landmarks,
         ENTITY,
         here,
         seen,
@@ -64,13 +64,13 @@ fn fields_between(
 fn fields_edit(kind: Kind, here: Context, seen: Seen, line: &[u8]) -> Edit
     ensures { λ r. ⌜ findingOf r ≡ firstBroken (fieldEdits (aroundOf here seen kind) (capitals (now (line .entry))) (rowsFor kind) (rulesFor kind)) ⌝ }
 {
-    let marks = kind::marks_of(kind);
+    let landmarks = kind::landmarks_of(kind);
     match kind {
-        Kind::Transmitter => fields_between(marks, here, seen, line, 0, 17),
-        Kind::Employer => fields_between(marks, here, seen, line, 17, 45),
-        Kind::Employee => fields_between(marks, here, seen, line, 45, 58),
-        Kind::Total => fields_between(marks, here, seen, line, 58, 65),
-        Kind::Final => fields_between(marks, here, seen, line, 65, 72),
+        Kind::Transmitter => fields_between(landmarks, here, seen, line, 0, 17),
+        Kind::Employer => fields_between(landmarks, here, seen, line, 17, 45),
+        Kind::Employee => fields_between(landmarks, here, seen, line, 45, 58),
+        Kind::Total => fields_between(landmarks, here, seen, line, 58, 65),
+        Kind::Final => fields_between(landmarks, here, seen, line, 65, 72),
         Kind::Unknown => Edit::Passed,
     }
 }

@@ -6,7 +6,7 @@ use reason::Reason;
 ghost use mathlib.Core.Path.{_≡_};
 ghost use mathlib.Core.Bool.{not};
 ghost use lib.Dec.{leb};
-ghost use Rattle.reason.specs.Numbers.{findingOf};
+ghost use Rattle.reason.specs.ReasonNumbers.{findingOf};
 ghost use Rattle.chars.specs.Columns.{unless};
 ghost use Rattle.edits.specs.Edit.{firstBroken};
 ghost use Rattle.shape.specs.Limits.{mostEmployees};

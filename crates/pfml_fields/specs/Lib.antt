@@ -4,4 +4,4 @@ pub mod Tiling
 pub mod Fit
 pub mod Map
 pub mod MapLaws
-pub mod Rules
+pub mod FieldRules

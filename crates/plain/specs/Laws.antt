@@ -9,7 +9,7 @@ use lib.Dec.{eqb, leb, ltb}
 use lib.ListN.{length, drop}
 use Rattle.laws.specs.Choice.{if_then_else_, both-hold}
 use Rattle.laws.specs.Finding.{Finding, fine, broken, value}
-use Rattle.lines.specs.Ends.{text-before-end, cut-before-end}
+use Rattle.lines.specs.MadeLines.{text-before-end, cut-before-end}
 use Rattle.lines.specs.Laws.{end-short}
 use Rattle.lines.specs.Lines.{Line, firstLine}
 use Rattle.calendar.specs.Laws.{allowed-filing, allowed-month}
@@ -17,14 +17,14 @@ use Rattle.calendar.specs.declared.Quarter.{Quarter}
 use Rattle.chars.specs.Characters.{capitals}
 use Rattle.chars.specs.Columns.{everyColumn, isFine, unless}
 use Rattle.chars.specs.declared.columns.Allowed.the-variants.{Digits, OfNames}
-use Rattle.number.specs.ColumnLaws.{value-reads}
+use Rattle.number.specs.NumberColumnLaws.{value-reads}
 use Rattle.number.specs.Numbers.{numberIn, valueIn}
-use Rattle.number.specs.RuleLaws.{period-passes}
-use Rattle.number.specs.Rules.{mayBeFiled}
+use Rattle.rules.specs.RuleLaws.{period-passes}
+use Rattle.rules.specs.Rules.{mayBeFiled}
 use Rattle.text.specs.TextLaws.{ink-not-blank, ink-not-indented}
 use Rattle.pfml_fields.specs.Fields.{fieldsOfS}
 use Rattle.edits.specs.EditLaws.{AllFine}
-use Rattle.edits.specs.Lists.{fieldEdits}
+use Rattle.edits.specs.FieldEdits.{fieldEdits}
 use Rattle.edits.specs.declared.Context.{Context}
 use Rattle.edits.specs.declared.Phase.the-variants.{EOpen}
 use Rattle.edits.specs.declared.Seen.{Seen}
@@ -37,7 +37,7 @@ use Rattle.shape.specs.Limits.{mostEmployees}
 use Rattle.shape.specs.Shape.{passed, seenBy, judgeAmongBy}
 use Rattle.record.specs.Judge.{judge, seenOn, judgeAmong}
 use Rattle.record.specs.Laws.{judge-pfml}
-use Rattle.pfml_fields.specs.Rules.{rulesOfS}
+use Rattle.pfml_fields.specs.FieldRules.{rulesOfS}
 use Rattle.pfml.specs.Sums.{passes}
 use Rattle.pfml.specs.declared.kind.Kind.the-variants.{Employee}
 use Rattle.shape.specs.declared.Said.the-variants.{OfS}

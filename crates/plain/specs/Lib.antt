@@ -1,6 +1,6 @@
 pub mod Plain
 pub mod Sweeps
-pub mod Outcomes
+pub mod SightOutcomes
 pub mod Templates
 pub mod Passing
 pub mod Laws

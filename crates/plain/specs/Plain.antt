@@ -6,7 +6,7 @@ use mathlib.Core.List.{List}
 use lib.Dec.{eqb, leb}
 use lib.ListN.{length, getD, drop}
 use Rattle.laws.specs.Choice.{if_then_else_}
-use Rattle.laws.specs.Text.{bytes}
+use Rattle.laws.specs.Spelling.{bytes}
 use Rattle.lines.specs.Lines.{endOf}
 use Rattle.calendar.specs.Quarters.{isAllowed}
 use Rattle.calendar.specs.declared.Quarter.{Quarter}
@@ -14,7 +14,7 @@ use Rattle.chars.specs.Characters.{capitals}
 use Rattle.chars.specs.Columns.{everyColumn, isFine}
 use Rattle.chars.specs.declared.columns.Allowed.the-variants.{OfNames}
 use Rattle.number.specs.Numbers.{putNumber}
-use Rattle.number.specs.Rules.{mayBeFiled}
+use Rattle.rules.specs.Rules.{mayBeFiled}
 use Rattle.plain.specs.declared.Sighted.{Sighted}
 
 -- ---- the two records

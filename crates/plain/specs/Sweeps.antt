@@ -12,7 +12,7 @@ use lib.Dec.{leb, ltb, lit<}
 use lib.ListN.{getD}
 use Rattle.laws.specs.Choice.{both-hold}
 use Rattle.laws.specs.Finding.{value}
-use Rattle.laws.specs.Steps.{left-suc, left-none}
+use Rattle.laws.specs.LoopSteps.{left-suc, left-none}
 use Rattle.chars.specs.Characters.{isDigit}
 use Rattle.chars.specs.CharacterLaws.{digit-is}
 use Rattle.number.specs.NumberLaws.{number-done, number-more}

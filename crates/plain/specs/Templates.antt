@@ -12,12 +12,12 @@ use lib.Seq.{getD-take, getD-drop}
 use Rattle.laws.specs.Choice.{both-hold}
 use Rattle.laws.specs.Finding.{value}
 use Rattle.laws.specs.Table.{every, at}
-use Rattle.laws.specs.Text.{bytes}
+use Rattle.laws.specs.Spelling.{bytes}
 use Rattle.calendar.specs.Laws.{allowed-year, allowed-month, quarter-month-range}
 use Rattle.calendar.specs.Quarters.{isAllowed}
 use Rattle.calendar.specs.declared.Quarter.{Quarter}
 use Rattle.chars.specs.Columns.{widthOf}
-use Rattle.number.specs.ColumnLaws.{put-number-length, put-number-elsewhere, same-digits, number-digits}
+use Rattle.number.specs.NumberColumnLaws.{put-number-length, put-number-elsewhere, same-digits, number-digits}
 use Rattle.number.specs.NumberLaws.{number-alike, read-back}
 use Rattle.number.specs.Numbers.{numberIn, putNumber}
 use Rattle.plain.specs.Sweeps.{side}

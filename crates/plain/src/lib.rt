@@ -2,7 +2,6 @@
 use calendar::Quarter;
 use chars::columns;
 use chars::columns::Allowed;
-use number::rules;
 ghost use mathlib.Core.Path.{_≡_};
 ghost use Prim.Native.Nat.{_-_, _≤_};
 ghost use lib.ListN.{length, drop};

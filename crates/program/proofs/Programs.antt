@@ -45,7 +45,7 @@ use Rattle.by_hand.proofs.Walk.{URA, Heap, Atoms, Given, Memory, Routine, Fun, 
 use Rattle.state.specs.declared.State.{State}
 use Rattle.state.proofs.State as S
 use Rattle.state.proofs.State.Laws as S′
-use Rattle.walk.proofs.Values.{state-val}
+use Rattle.walk.proofs.WalkValues.{state-val}
 use Rattle.frames.specs.declared.Framed.{Framed}
 use Rattle.frames.proofs.Framed as F
 use Rattle.frames.proofs.Framed.Laws as F′
@@ -57,7 +57,7 @@ use Rattle.ack.proofs.Progress as P
 use Rattle.ack.proofs.Progress.Laws as P′
 use Rattle.ack.proofs.Turned as U
 use Rattle.ack.proofs.Called.{turn}
-use Rattle.ack.proofs.Values.{format-val, progress-val, turned-val}
+use Rattle.ack.proofs.TurnValues.{format-val, progress-val, turned-val}
 use Rattle.ack.proofs.turn.Symbol.{name as #turn}
 use Rattle.program.specs.declared.Telling.{Telling}
 use Rattle.program.proofs.Telling as Te

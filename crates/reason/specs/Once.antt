@@ -9,7 +9,7 @@ use lib.ListN.{length, getD}
 use borrow.Author.Tests.{eqb-true, eq-eqb, ne-eqb}
 use Rattle.laws.specs.Finding.{fine, broken}
 use Rattle.laws.specs.Table.{every, at}
-use Rattle.reason.specs.Numbers.{numberOf, reasons, havingNumber, reasonOf, isListed, findingOf, Notice, noticeOf}
+use Rattle.reason.specs.ReasonNumbers.{numberOf, reasons, havingNumber, reasonOf, isListed, findingOf, Notice, noticeOf}
 use Rattle.reason.specs.declared.Edit.{Edit}
 use Rattle.reason.specs.declared.Edit.the-variants.{Passed, Broken}
 use Rattle.reason.specs.declared.Reason.{Reason}

@@ -1,6 +1,6 @@
 // Why a file is refused, and where.
 ghost use mathlib.Core.Path.{_≡_};
-ghost use Rattle.reason.specs.Numbers.{numberOf, reasonOf, isListed};
+ghost use Rattle.reason.specs.ReasonNumbers.{numberOf, reasonOf, isListed};
 
 // One reason for each number of the paper's table, for 64 and 65 of document 02, and for 73, which the formats bring. The number of a reason is
 // `number_of`, and `reason_of` the way back: nothing else goes by cases on the reasons.

@@ -10,7 +10,7 @@ use Rattle.edits.specs.declared.Seen.{Seen}
 use Rattle.edits.specs.declared.format.Format.{Format}
 use Rattle.shape.specs.Shape.{Judged, saidOn, judgeBy, seenBy, editsAmongBy}
 use Rattle.shape.specs.declared.Said.{Said}
-use Rattle.record.specs.Formats.{shapeOf}
+use Rattle.record.specs.ShapeOf.{shapeOf}
 
 -- The record on a line of a file of this format.
 abbrev pub recordOn : Format → Line → Said

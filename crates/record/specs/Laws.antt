@@ -21,7 +21,7 @@ use Rattle.edits.specs.declared.format.Format.{Format}
 use Rattle.edits.specs.declared.format.Format.the-variants.{Pfml}
 use Rattle.shape.specs.After.{phaseAfter, filedAfter, openAfter, usedAfter, totalsAfter}
 use Rattle.shape.specs.Among.{judge-says-by, judged-size-by, passed-fits-by, passed-bounded-by, quarter-kept-by, more-kept-by, passed-positive-by, passed-length-by, refusal-left-by, end-left-by, asked-of-bytes-by, judge-lent-by}
-use Rattle.shape.specs.Ends.{endEdits}
+use Rattle.shape.specs.EndOfInput.{endEdits}
 use Rattle.shape.specs.Fits.{Fits, Bounded}
 use Rattle.shape.specs.Hidden.{isEmployee, employeeOn, blot, MeetsOwn}
 use Rattle.shape.specs.Judged.{alike-judged-by, other-judged-by}
@@ -31,7 +31,7 @@ use Rattle.shape.specs.Theorems.{line-labelled-by}
 use Rattle.shape.specs.Twins.{withoutSums}
 use Rattle.shape.specs.declared.Said.{Said}
 use Rattle.pfml.specs.Format.{pfmlShape}
-use Rattle.record.specs.Formats.{shapeOf, lawfulOf}
+use Rattle.record.specs.ShapeOf.{shapeOf, lawfulOf}
 use Rattle.record.specs.Judge.{recordOn, judge, seenOn, editsAmong, judgeAmong}
 
 -- What the record on any line says is small.

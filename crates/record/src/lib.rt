@@ -17,12 +17,12 @@ use shape::Verdict;
 ghost use mathlib.Core.Path.{_≡_};
 ghost use mathlib.Core.Bool.{_&&_};
 ghost use lib.Dec.{leb};
-ghost use Rattle.reason.specs.Numbers.{findingOf};
+ghost use Rattle.reason.specs.ReasonNumbers.{findingOf};
 ghost use Rattle.lines.specs.Lines.{firstLine};
 ghost use Rattle.chars.specs.Characters.{capitals};
 ghost use Rattle.edits.specs.Edit.{firstBroken};
 ghost use Rattle.shape.specs.Shape.{judgedBy, textVerdictBy, feinAsked, idAsked};
-ghost use Rattle.record.specs.Formats.{shapeOf};
+ghost use Rattle.record.specs.ShapeOf.{shapeOf};
 ghost use Rattle.record.specs.Judge.{judge as judgeOf};
 
 // How many characters a line has.

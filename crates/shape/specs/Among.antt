@@ -12,7 +12,7 @@ use lib.ListN.{length, take}
 use Rattle.laws.specs.Finding.{Finding, fine, broken, orElse, Reading, value, refused, findingIn}
 use Rattle.lines.specs.Cutting.{cutting}
 use Rattle.lines.specs.Lines.{Line, firstLine, sizeOf}
-use Rattle.lines.specs.Outcomes.{taken-is-size, refused-number}
+use Rattle.lines.specs.CutOutcomes.{taken-is-size, refused-number}
 use Rattle.lines.specs.Window.{Lent, lent-alike, lent-line}
 use Rattle.chars.specs.Characters.{capitals}
 use Rattle.chars.specs.CharacterLaws.{capitals-take}
@@ -23,8 +23,8 @@ use Rattle.edits.specs.declared.Phase.{Phase}
 use Rattle.edits.specs.declared.Phase.the-variants.{BeforeA, AfterA, EOpen, AfterT, AfterF}
 use Rattle.edits.specs.declared.Seen.{Seen}
 use Rattle.shape.specs.After.{phaseAfter, filedAfter, openAfter, usedAfter, totalsAfter}
-use Rattle.shape.specs.EndLaws.{endTest, end-parts}
-use Rattle.shape.specs.Ends.{endEdits}
+use Rattle.shape.specs.EndOfInputLaws.{endTest, end-parts}
+use Rattle.shape.specs.EndOfInput.{endEdits}
 use Rattle.shape.specs.Fits.{Fits, Bounded}
 use Rattle.shape.specs.Lawful.{Lawful}
 use Rattle.shape.specs.Phases.{stands}

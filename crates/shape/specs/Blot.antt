@@ -11,8 +11,8 @@ use lib.Seq.{ext-getD, getD-take}
 use borrow.Author.Tests.{eqb-true}
 use Rattle.laws.specs.Choice.{if_then_else_, both-hold}
 use Rattle.lines.specs.Changed.{hasNoEnd, blank-no-end, Keeps}
-use Rattle.lines.specs.Ends.{no-end-at}
-use Rattle.lines.specs.Hidden.{Hides}
+use Rattle.lines.specs.MadeLines.{no-end-at}
+use Rattle.lines.specs.HiddenPlaces.{Hides}
 use Rattle.lines.specs.Lines.{Line, isEnd}
 use Rattle.chars.specs.Characters.{isPermitted, capitals}
 use Rattle.chars.specs.CharacterLaws.{capitals-take, permitted-span}

@@ -11,7 +11,7 @@ use Rattle.laws.specs.Choice.{both-hold}
 use Rattle.laws.specs.Finding.{fine, orElse, Reading, value, refused, findingIn}
 use Rattle.lines.specs.Cutting.{cutting}
 use Rattle.lines.specs.Lines.{Line}
-use Rattle.lines.specs.Outcomes.{no-end, takes, taken-is-size}
+use Rattle.lines.specs.CutOutcomes.{no-end, takes, taken-is-size}
 use Rattle.chars.specs.Characters.{isPermitted, capitalOf, capitals}
 use Rattle.chars.specs.CharacterLaws.{capital-at, capital-permitted}
 use Rattle.edits.specs.Edit.{firstBroken}

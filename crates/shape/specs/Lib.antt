@@ -1,7 +1,7 @@
 pub mod Limits
 pub mod Phases
-pub mod Ends
-pub mod EndLaws
+pub mod EndOfInput
+pub mod EndOfInputLaws
 pub mod Shape
 pub mod After
 pub mod Fits

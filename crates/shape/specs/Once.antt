@@ -1,6 +1,6 @@
 -- The promise of a verdict leaves room for one answer.
 use mathlib.Core.Path.{_≡_, sym}
-use Rattle.reason.specs.Numbers.{numberOf}
+use Rattle.reason.specs.ReasonNumbers.{numberOf}
 use Rattle.reason.specs.Once.{same-number}
 use Rattle.shape.specs.Shape.{judgedBy}
 use Rattle.shape.specs.Theorems.{not-passed}

@@ -7,7 +7,7 @@ use Rattle.lines.specs.Cutting.{beyond, lengthTest, endTest}
 use Rattle.lines.specs.Lines.{Line, sizeOf}
 use Rattle.calendar.specs.declared.Quarter.{Quarter}
 use Rattle.chars.specs.Characters.{capitals}
-use Rattle.reason.specs.Numbers.{numberOf}
+use Rattle.reason.specs.ReasonNumbers.{numberOf}
 use Rattle.edits.specs.Edit.{Edit, atFirst, firstBroken}
 use Rattle.edits.specs.declared.Context.{Context}
 use Rattle.edits.specs.declared.Open.{Open}

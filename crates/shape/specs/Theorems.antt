@@ -1,4 +1,4 @@
--- accepted-iff and first-is-first, of one line, in every format; and the verdict part by part.
+-- accepted-iff and first-of-line, of one line, in every format; and the verdict part by part.
 use Prim.Native.Nat.{ℕ, _≤_}
 use mathlib.Core.List.{List}
 use mathlib.Core.Path.{_≡_, refl, sym, ap, _∙_}
@@ -8,7 +8,7 @@ use Rattle.laws.specs.Finding.{Finding, fine, broken, orElse, value, refused, f
 use Rattle.lines.specs.Cutting.{cutting, lengthTest, endTest}
 use Rattle.lines.specs.Laws.{size-within, text-in-front}
 use Rattle.lines.specs.Lines.{Line, firstLine, sizeOf}
-use Rattle.lines.specs.Outcomes.{cut-parts, taken-is-size, length-labelled, ending-labelled}
+use Rattle.lines.specs.CutOutcomes.{cut-parts, taken-is-size, length-labelled, ending-labelled}
 use Rattle.chars.specs.Characters.{capitals}
 use Rattle.edits.specs.Edit.{firstBroken}
 use Rattle.edits.specs.EditLaws.{first-cons, or-assoc, AllFine, fine-all, all-fine, FirstIn, first-of-list}
@@ -55,8 +55,8 @@ module _ (s : Shape) (l : Lawful s) (here : Context) (seen : Seen) (line : Line)
       (more-labelled _ _ (ending-labelled (s .length) line) refl refl (l .labelled here seen (capitals (line .text))))
 
   -- A refusal is a broken edit, told by its label, and no edit before it in the stated order is broken.
-  pub first-is-first : (column number : ℕ) → judgeBy s here seen line ≡ refusal column number → FirstIn (lineEditsBy s here seen line) column number
-  first-is-first column number e = first-of-list (lineEditsBy s here seen line) line-labelled-by column number (refused-finds s here seen line column number e)
+  pub first-of-line : (column number : ℕ) → judgeBy s here seen line ≡ refusal column number → FirstIn (lineEditsBy s here seen line) column number
+  first-of-line column number e = first-of-list (lineEditsBy s here seen line) line-labelled-by column number (refused-finds s here seen line column number e)
 
 -- ---- cutting, then the edits of the text
 module _ (s : Shape) (here : Context) (seen : Seen) where

@@ -4,9 +4,9 @@ use edits::Phase;
 use reason::Edit;
 use reason::Reason;
 ghost use mathlib.Core.Path.{_≡_};
-ghost use Rattle.reason.specs.Numbers.{findingOf};
+ghost use Rattle.reason.specs.ReasonNumbers.{findingOf};
 ghost use Rattle.edits.specs.Edit.{firstBroken};
-ghost use Rattle.shape.specs.Ends.{endEdits};
+ghost use Rattle.shape.specs.EndOfInput.{endEdits};
 ghost use Rattle.shape.specs.Shape.{asksNothing};
 
 // An E record: its FEIN, whether S records follow, whether it amends a return, whether it closes the business, and the cease date.

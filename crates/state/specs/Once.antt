@@ -2,7 +2,7 @@
 use Prim.Native.Nat.{ℕ}
 use mathlib.Core.Path.{_≡_, refl, sym, ap}
 use native.Mathlib.Omega.{arith}
-use Rattle.reason.specs.Numbers.{Notice, noticeOf}
+use Rattle.reason.specs.ReasonNumbers.{Notice, noticeOf}
 use Rattle.reason.specs.Once.{same-notice}
 use Rattle.calendar.specs.declared.Quarter.{Quarter}
 use Rattle.edits.specs.declared.Open.{Open}

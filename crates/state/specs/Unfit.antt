@@ -13,7 +13,7 @@ use Rattle.edits.specs.declared.format.Format.{Format}
 use Rattle.shape.specs.Limits.{mostEmployees, mostFein}
 use Rattle.shape.specs.Phases.{stands}
 use Rattle.shape.specs.Shape.{Shape}
-use Rattle.record.specs.Formats.{shapeOf}
+use Rattle.record.specs.ShapeOf.{shapeOf}
 use Rattle.tables.specs.Room.{Room, entriesUsed}
 use Rattle.state.specs.Walks.{Standing, reading, accepted, refused, Walk}
 

@@ -6,7 +6,7 @@ use native.Mathlib.Omega.{arith}
 use lib.Dec.{ltb, eqb}
 use borrow.Author.Tests.{le-ltb, ltb-false, ne-eqb, eqb-false, eqb-true}
 use Rattle.laws.specs.Choice.{if_then_else_}
-use Rattle.reason.specs.Numbers.{Notice}
+use Rattle.reason.specs.ReasonNumbers.{Notice}
 use Rattle.calendar.specs.Quarters.{isAllowed}
 use Rattle.edits.specs.Formats.{isKnown, quarterHeld, openingNumber, isOfOpening}
 use Rattle.edits.specs.declared.Open.{Open}
@@ -15,7 +15,7 @@ use Rattle.edits.specs.declared.Totals.{Totals}
 use Rattle.edits.specs.declared.format.Format.{Format}
 use Rattle.shape.specs.Limits.{mostEmployees, mostFein}
 use Rattle.shape.specs.Shape.{Shape}
-use Rattle.record.specs.Formats.{shapeOf, lawfulOf}
+use Rattle.record.specs.ShapeOf.{shapeOf, lawfulOf}
 use Rattle.tables.specs.Room.{Room, entriesUsed}
 use Rattle.state.specs.Unfit.{fileUnfit, openUnfit, isOpen, isLeft, standingUnfit, unfit}
 use Rattle.state.specs.Walks.{Walk, refusedWalk}

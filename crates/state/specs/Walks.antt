@@ -1,6 +1,6 @@
 -- The state of a walk in the paper's numbers.
 use Prim.Native.Nat.{ℕ}
-use Rattle.reason.specs.Numbers.{Notice, noticeOf}
+use Rattle.reason.specs.ReasonNumbers.{Notice, noticeOf}
 use Rattle.calendar.specs.declared.Quarter.{Quarter}
 use Rattle.edits.specs.Formats.{openingWith}
 use Rattle.edits.specs.declared.Open.{Open}

@@ -13,7 +13,7 @@ ghost use mathlib.Core.Path.{_≡_};
 ghost use mathlib.Core.Bool.{_&&_};
 ghost use Rattle.edits.specs.Formats.{isOfOpening};
 ghost use Rattle.shape.specs.Limits.{mostEmployees};
-ghost use Rattle.record.specs.Formats.{shapeOf};
+ghost use Rattle.record.specs.ShapeOf.{shapeOf};
 ghost use Rattle.tables.specs.Room.{entriesUsed};
 ghost use Rattle.state.specs.Walks.{reading, walkOf, standingOf};
 ghost use Rattle.state.specs.Unfit.{fileUnfit, openUnfit, isOpen, isLeft, bothUnfit, standingUnfit, unfit};

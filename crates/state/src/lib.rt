@@ -9,7 +9,7 @@ use edits::Totals;
 use edits::format::Format;
 use reason::Refusal;
 ghost use mathlib.Core.Path.{_≡_};
-ghost use Rattle.reason.specs.Numbers.{noticeOf};
+ghost use Rattle.reason.specs.ReasonNumbers.{noticeOf};
 ghost use Rattle.shape.specs.After.{noQuarter, noneOpen, noTotals};
 ghost use Rattle.state.specs.Walks.{phaseOf, noOpening, standingOf, walkOf, openedWalk, refusedWalk};
 

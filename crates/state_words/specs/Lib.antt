@@ -1,4 +1,4 @@
 pub mod Words
-pub mod Writing
+pub mod WordsWritten
 pub mod Reading
 pub mod Theorems

@@ -9,7 +9,7 @@ use lib.Dec.{ltb}
 use lib.ListN.{length, List·getD-eq-default}
 use borrow.Author.Tests.{lt-ltb, le-ltb}
 use Rattle.laws.specs.Choice.{if_then_else_}
-use Rattle.reason.specs.Numbers.{numberOf, reasonOf, isListed, notice}
+use Rattle.reason.specs.ReasonNumbers.{numberOf, reasonOf, isListed, notice}
 use Rattle.reason.specs.Once.{listed-number}
 use Rattle.state.specs.Walks.{Standing, refused}
 use Rattle.state_words.specs.Words.{wordCount, word, lineIn, columnIn, refusalIn, standings, standingIn, unfitWalk, walkTold, walkIn}

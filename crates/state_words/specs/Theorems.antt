@@ -7,7 +7,7 @@ use mathlib.Core.Path.{_≡_, refl, ap, _∙_}
 use native.Mathlib.Omega.{arith}
 use lib.ListN.{length, drop}
 use borrow.Author.Tests.{not-false}
-use Rattle.reason.specs.Numbers.{isListed}
+use Rattle.reason.specs.ReasonNumbers.{isListed}
 use Rattle.reason.specs.Once.{number-listed}
 use Rattle.tables.specs.Room.{Room}
 use Rattle.edits.specs.Formats.{formatOf, formatNumber}
@@ -23,7 +23,7 @@ use Rattle.state.specs.declared.Stage.the-variants.{Reading, Accepted, Refused}
 use Rattle.state.specs.declared.State.{State}
 use Rattle.state_words.specs.Reading.{nowhere-told, unnamed-told, few-told, none-told, all-told}
 use Rattle.state_words.specs.Words.{wordCount, standingWords, numberWords, putWords, mostLine, mostColumn, HeldStanding, Held, word, flagWord, flagIn, standingIn, unfitWalk, walkTold, walkIn}
-use Rattle.state_words.specs.Writing.{firstFour, four, enough}
+use Rattle.state_words.specs.WordsWritten.{firstFour, four, enough}
 
 -- ---- there and back
 flag-back : (flag : Bool) → flagIn (flagWord flag) ≡ flag

@@ -14,7 +14,7 @@ ghost use Prim.Native.Nat.{_≤_, min};
 ghost use mathlib.Core.Option.{some};
 ghost use mathlib.Core.Path.{_≡_};
 ghost use lib.ListN.{length};
-ghost use Rattle.reason.specs.Numbers.{noticeOf};
+ghost use Rattle.reason.specs.ReasonNumbers.{noticeOf};
 ghost use Rattle.state.specs.Walks.{reading, refused, standingOf, walkOf};
 ghost use Rattle.state_words.specs.Words.{wordCount, standingWords, flagWord, wordsOf, putWords, HeldStanding, Held, lineIn, columnIn, refusalIn, standingIn, unfitWalk, openTold, totalsTold, walkTold, walkIn, toldOf};
 

@@ -4,7 +4,7 @@ use mathlib.Core.Bool.{Bool}
 use lib.Dec.{leb, eqb}
 use Rattle.laws.specs.Choice.{if_then_else_}
 use Rattle.laws.specs.Finding.{Finding, fine, broken}
-use Rattle.reason.specs.Numbers.{Notice, notice, noticeOf}
+use Rattle.reason.specs.ReasonNumbers.{Notice, notice, noticeOf}
 use Rattle.calendar.specs.declared.Quarter.{Quarter}
 use Rattle.lines.specs.Lines.{Line}
 use Rattle.chars.specs.Characters.{capitals}
@@ -18,7 +18,7 @@ use Rattle.edits.specs.declared.Seen.{Seen}
 use Rattle.edits.specs.declared.Totals.{Totals}
 use Rattle.shape.specs.Shape.{Judged, refusal, passed}
 use Rattle.record.specs.Judge.{judge, seenOn}
-use Rattle.shape.specs.Ends.{endEdits}
+use Rattle.shape.specs.EndOfInput.{endEdits}
 use Rattle.shape.specs.declared.Said.{Said}
 use Rattle.shape.specs.declared.Said.the-variants.{OfA, OfE, OfS, OfT, OfF, OfNone}
 use Rattle.tables.specs.Room.{Room, entriesUsed}

@@ -1,6 +1,6 @@
 -- The paper's numbers lose nothing of an answer and of what a call writes: no second one fits a promise.
 use mathlib.Core.Path.{_≡_, sym, ap}
-use Rattle.reason.specs.Numbers.{Notice}
+use Rattle.reason.specs.ReasonNumbers.{Notice}
 use Rattle.reason.specs.Once.{never-zero, same-notice}
 use Rattle.tables.specs.Room.{Tables}
 use Rattle.state.specs.Once.{same-walk}

@@ -8,7 +8,7 @@ use Rattle.chars.specs.Characters.{capitals}
 use Rattle.edits.specs.declared.format.Format.{Format}
 use Rattle.shape.specs.Shape.{feinAsked, idAsked}
 use Rattle.shape.specs.declared.Asking.{Asking}
-use Rattle.record.specs.Formats.{shapeOf}
+use Rattle.record.specs.ShapeOf.{shapeOf}
 use Rattle.tables.specs.Tables.{isAmong, feinsOf}
 use Rattle.tables.specs.declared.Employer.{Employer}
 

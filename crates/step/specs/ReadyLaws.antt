@@ -17,7 +17,7 @@ use Rattle.shape.specs.Shape.{Shape, passed}
 use Rattle.shape.specs.declared.EmployeeOn.{EmployeeOn}
 use Rattle.shape.specs.declared.Said.{Said}
 use Rattle.shape.specs.declared.Said.the-variants.{OfA, OfE, OfS, OfT, OfF, OfNone}
-use Rattle.record.specs.Formats.{shapeOf, lawfulOf}
+use Rattle.record.specs.ShapeOf.{shapeOf, lawfulOf}
 use Rattle.record.specs.Judge.{recordOn, judge}
 use Rattle.record.specs.Laws.{judged-size, judged-fits, judged-bounded}
 use Rattle.tables.specs.Room.{Room, mostEmployers}

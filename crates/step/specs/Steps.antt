@@ -3,7 +3,7 @@ use Prim.Native.Nat.{ℕ}
 use mathlib.Core.Bool.{Bool}
 use mathlib.Core.List.{List}
 use lib.ListN.{length, take, set, replicate}
-use Rattle.reason.specs.Numbers.{Notice}
+use Rattle.reason.specs.ReasonNumbers.{Notice}
 use Rattle.lines.specs.Lines.{Line}
 use Rattle.tables.specs.Room.{Tables, tables, roomOf}
 use Rattle.tables.specs.Tables.{noEmployer, opened, wiped, isAmong, closedAt, feinsOf}

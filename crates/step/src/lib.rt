@@ -13,7 +13,7 @@ use state::State;
 use state::fitness;
 ghost use Prim.Native.Nat.{_<_};
 ghost use mathlib.Core.Path.{_≡_};
-ghost use Rattle.reason.specs.Numbers.{numberOf, noticeOf};
+ghost use Rattle.reason.specs.ReasonNumbers.{numberOf, noticeOf};
 ghost use Rattle.edits.specs.Formats.{openingNumber};
 ghost use Rattle.state.specs.Walks.{walkOf, reading};
 ghost use Rattle.step.specs.Moves.{takenIn, movedBy, stays as staysOf, again as againOf, refuses, accepts, endStanding, endMoved, openMoved};

@@ -3,4 +3,4 @@ pub mod Room
 pub mod Laws
 pub mod Pad
 pub mod Last
-pub mod Steps
+pub mod TableSteps

@@ -7,7 +7,6 @@ use calendar::Timing;
 use field::class;
 use lines::Cut;
 use number::Number;
-use number::rules;
 use reason::Edit;
 use reason::Reason;
 use text::address;

@@ -5,7 +5,7 @@ use mathlib.Core.List.{List}
 use lib.ListN.{getD}
 use Rattle.laws.specs.Choice.{if_then_else_}
 use Rattle.laws.specs.Finding.{Finding, fine, broken}
-use Rattle.laws.specs.Text.{bytes}
+use Rattle.laws.specs.Spelling.{bytes}
 use Rattle.codes.specs.declared.Region.{Region}
 use Rattle.codes.specs.declared.Region.the-variants.{State, Province, Unknown}
 use Rattle.codes.specs.Codes.{regionOf}

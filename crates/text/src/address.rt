@@ -3,7 +3,7 @@ use codes::Region;
 use reason::Edit;
 use reason::Reason;
 ghost use mathlib.Core.Path.{_≡_};
-ghost use Rattle.reason.specs.Numbers.{findingOf};
+ghost use Rattle.reason.specs.ReasonNumbers.{findingOf};
 ghost use Rattle.chars.specs.Characters.{capitals};
 ghost use Rattle.text.specs.Address.{regionIn, stateTest, zipTest, extensionTest};
 

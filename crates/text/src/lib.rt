@@ -10,7 +10,7 @@ ghost use mathlib.Core.Path.{_≡_};
 ghost use mathlib.Core.Bool.{_||_, not};
 ghost use Prim.Native.Nat.{_-_};
 ghost use lib.ListN.{drop};
-ghost use Rattle.reason.specs.Numbers.{findingOf, numberOf};
+ghost use Rattle.reason.specs.ReasonNumbers.{findingOf, numberOf};
 ghost use Rattle.chars.specs.Characters.{capitals};
 ghost use Rattle.chars.specs.Columns.{unless};
 ghost use Rattle.text.specs.Text.{allBlank, isIndented, textTest, requiredText, optionalText, isAsked, readsAs, hasPattern, entityTest};

@@ -7,7 +7,7 @@ use denote.Ref.{now}
 use denote.Struct.Laws as LL
 use Rattle.edits.proofs.Opening as O
 use Rattle.edits.proofs.Opening.Laws as O′
-use Rattle.reason.specs.Numbers.{notice}
+use Rattle.reason.specs.ReasonNumbers.{notice}
 use Rattle.lines.specs.Lines.{firstLine}
 use Rattle.tables.specs.Room.{Tables, tables}
 use Rattle.by_hand.proofs.Walk.{URA, Heap, Atoms, Given, Memory, Routine, Fun, SProp, emp, id⊢, w64, vint, uint-tells, Callee, total}

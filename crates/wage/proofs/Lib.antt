@@ -1,3 +1,3 @@
 pub mod Called
-mod Lent
-mod Steps
+mod SlicesLent
+mod StateSteps

@@ -8,13 +8,13 @@ use lib.ListN.{length, set}
 use lib.Seq.{take-nil}
 use borrow.Author.Tests.{ne-eqb, lt-ltb, le-ltb}
 use Rattle.laws.specs.Finding.{Reading}
-use Rattle.reason.specs.Numbers.{numberOf, notice, noticeOf}
+use Rattle.reason.specs.ReasonNumbers.{numberOf, notice, noticeOf}
 use Rattle.reason.specs.Once.{never-zero}
 use Rattle.reason.specs.declared.Refusal.{Refusal}
 use Rattle.tables.specs.Room.{Tables}
 use Rattle.step.specs.Steps.{Out}
 use Rattle.state_words.specs.Words.{wordCount, putWords, walkIn}
-use Rattle.state_words.specs.Writing.{too-few}
+use Rattle.state_words.specs.WordsWritten.{too-few}
 use Rattle.write.specs.Writing.{Writing, noticeIn, writtenBy}
 use Rattle.write.specs.declared.Wrote.{Wrote}
 use Rattle.write.specs.declared.Wrote.the-variants.{Refused}

@@ -7,7 +7,7 @@ use lib.Dec.{eqb, ltb}
 use lib.ListN.{length, getD, take, drop}
 use Rattle.laws.specs.Choice.{if_then_else_}
 use Rattle.laws.specs.Finding.{Reading, value, refused}
-use Rattle.reason.specs.Numbers.{Notice, notice}
+use Rattle.reason.specs.ReasonNumbers.{Notice, notice}
 use Rattle.lines.specs.Lines.{firstLine}
 use Rattle.chars.specs.Characters.{capitals}
 use Rattle.number.specs.Numbers.{numberIn}

@@ -10,7 +10,7 @@ use lib.ListN.{length, drop, length-append, length-drop}
 use borrow.Author.Tests.{ne-eqb}
 use Rattle.laws.specs.Choice.{if_then_else_}
 use Rattle.laws.specs.Finding.{Finding, fine, broken}
-use Rattle.reason.specs.Numbers.{Notice, notice}
+use Rattle.reason.specs.ReasonNumbers.{Notice, notice}
 use Rattle.lines.specs.Lines.{Line, firstLine}
 use Rattle.chars.specs.Characters.{capitals}
 use Rattle.edits.specs.Edit.{firstBroken}
@@ -21,9 +21,9 @@ use Rattle.edits.specs.declared.Seen.{Seen}
 use Rattle.edits.specs.declared.format.Format.{Format}
 use Rattle.shape.specs.Shape.{Judged, refusal, passed}
 use Rattle.record.specs.Judge.{judge, seenOn}
-use Rattle.record.specs.Formats.{shapeOf}
+use Rattle.record.specs.ShapeOf.{shapeOf}
 use Rattle.record.specs.Laws.{refusal-left, end-left}
-use Rattle.shape.specs.Ends.{endEdits}
+use Rattle.shape.specs.EndOfInput.{endEdits}
 use Rattle.tables.specs.Room.{Room, Tables, roomOf}
 use Rattle.tables.specs.declared.Employer.{Employer}
 use Rattle.state.specs.Unfit.{unfit}
@@ -31,7 +31,7 @@ use Rattle.state.specs.UnfitLaws.{edit-not-opening, edit-not-71, edit-not-72}
 use Rattle.state.specs.Walks.{Standing, reading, accepted, refused, Walk}
 use Rattle.state_words.specs.Theorems.{Unknown, unknown-unfit}
 use Rattle.state_words.specs.Words.{wordCount, wordsOf, putWords, walkIn}
-use Rattle.state_words.specs.Writing.{words-length, enough}
+use Rattle.state_words.specs.WordsWritten.{words-length, enough}
 use Rattle.write.specs.Writing.{noTables, refusalOf, writing}
 use Rattle.write.specs.WritingLaws.{unfit-first}
 use Rattle.frames.specs.FrameLaws.{framing-unfit}

@@ -12,7 +12,7 @@ use tables::Employer;
 use write::Wrote;
 ghost use mathlib.Core.Path.{_≡_};
 ghost use lib.ListN.{set};
-ghost use Rattle.reason.specs.Numbers.{notice, noticeOf};
+ghost use Rattle.reason.specs.ReasonNumbers.{notice, noticeOf};
 ghost use Rattle.number.specs.Numbers.{readingOf};
 ghost use Rattle.tables.specs.Room.{Tables, tables as tablesOf};
 ghost use Rattle.step.specs.Moves.{noticeIn, takenIn};

@@ -10,7 +10,7 @@ use Rattle.edits.specs.declared.Phase.the-variants.{BeforeA, AfterA, EOpen, Aft
 use Rattle.shape.specs.Limits.{mostEmployees, mostFein}
 use Rattle.shape.specs.Phases.{stands}
 use Rattle.shape.specs.declared.Said.{Said}
-use Rattle.record.specs.Formats.{shapeOf}
+use Rattle.record.specs.ShapeOf.{shapeOf}
 use Rattle.tables.specs.Pad.{pad}
 use Rattle.tables.specs.Room.{Room, Tables, tables, entriesUsed}
 use Rattle.tables.specs.Tables.{noEmployer}

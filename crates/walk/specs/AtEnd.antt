@@ -5,7 +5,7 @@ use mathlib.Core.List.{List, [], _∷_}
 use mathlib.Core.Path.{_≡_, refl, sym, ap, subst, _∙_}
 use native.Mathlib.Omega.{arith}
 use lib.ListN.{length}
-use Rattle.reason.specs.Numbers.{Notice, notice}
+use Rattle.reason.specs.ReasonNumbers.{Notice, notice}
 use Rattle.laws.specs.Finding.{Finding}
 use Rattle.lines.specs.Lines.{Line}
 use Rattle.edits.specs.Formats.{isKnown, mayOpen}
@@ -14,9 +14,9 @@ use Rattle.edits.specs.declared.Phase.{Phase}
 use Rattle.edits.specs.declared.Phase.the-variants.{BeforeA, AfterA, EOpen, AfterT, AfterF}
 use Rattle.edits.specs.declared.Totals.{Totals}
 use Rattle.record.specs.Laws.{passed-size, refusal-left}
-use Rattle.record.specs.Formats.{shapeOf, lawfulOf}
+use Rattle.record.specs.ShapeOf.{shapeOf, lawfulOf}
 use Rattle.shape.specs.Shape.{Judged, refusal, passed}
-use Rattle.shape.specs.EndLaws.{endTest, end-parts}
+use Rattle.shape.specs.EndOfInputLaws.{endTest, end-parts}
 use Rattle.shape.specs.declared.Said.{Said}
 use Rattle.tables.specs.Room.{Room}
 use Rattle.tables.specs.declared.Employer.{Employer}
@@ -27,7 +27,7 @@ use Rattle.meaning.specs.Theorems.{not-refused}
 use Rattle.state.specs.Unfit.{isLeft}
 use Rattle.state.specs.UnfitLaws.{left-number}
 use Rattle.walk.specs.At.{Good}
-use Rattle.walk.specs.Means.{taken-good}
+use Rattle.walk.specs.WalkMeans.{taken-good}
 
 module _ (room : Room) (held : Opening) (allowed : mayOpen held ≡ true) (entries : List Employer) (totals : Totals) where
   abbrev TakenAll : List Said → Type 0

@@ -6,12 +6,12 @@ use lib.Dec.{eqb}
 use lib.ListN.{length, take}
 use Rattle.laws.specs.Choice.{if_then_else_}
 use Rattle.lines.specs.Lines.{firstLine, linesOf}
-use Rattle.reason.specs.Numbers.{Notice}
+use Rattle.reason.specs.ReasonNumbers.{Notice}
 use Rattle.edits.specs.Formats.{mayOpen}
 use Rattle.edits.specs.declared.Opening.{Opening}
 use Rattle.edits.specs.declared.format.Format.{Format}
 use Rattle.shape.specs.declared.Said.{Said}
-use Rattle.record.specs.Formats.{shapeOf}
+use Rattle.record.specs.ShapeOf.{shapeOf}
 use Rattle.tables.specs.Pad.{pad}
 use Rattle.tables.specs.Room.{Room, Tables, tables, roomOf, zeroed}
 use Rattle.tables.specs.Tables.{noEmployer}

@@ -18,7 +18,7 @@ use Rattle.shape.specs.declared.EmployeeOn.{EmployeeOn}
 use Rattle.shape.specs.declared.EmployerOn.{EmployerOn}
 use Rattle.shape.specs.declared.Said.{Said}
 use Rattle.shape.specs.declared.Said.the-variants.{OfA, OfE, OfS, OfT, OfF, OfNone}
-use Rattle.record.specs.Formats.{shapeOf, lawfulOf}
+use Rattle.record.specs.ShapeOf.{shapeOf, lawfulOf}
 use Rattle.tables.specs.Room.{Room, entriesUsed}
 use Rattle.shape.specs.After.{phaseAfter, filedAfter, openAfter, andId, idsWith, totalsAfter}
 use Rattle.meaning.specs.Before.{phaseIn, filedIn, openIn, idsUnder, totalsIn}

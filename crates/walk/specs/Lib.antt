@@ -5,13 +5,13 @@ pub mod Calls
 pub mod GoodLaws
 pub mod StepLaws
 pub mod CallLaws
-pub mod Means
+pub mod WalkMeans
 pub mod WholeLaws
 pub mod TablesAt
 pub mod NeverUnfit
-pub mod Employers
+pub mod EmployersReported
 pub mod AtEnd
-pub mod Runs
-pub mod RunLaws
+pub mod LineAndRun
+pub mod LineAndRunLaws
 pub mod RunCalls
 pub mod Manual

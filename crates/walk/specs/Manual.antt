@@ -4,7 +4,7 @@ use Prim.Native.Nat.{ℕ}
 use mathlib.Core.Bool.{true}
 use mathlib.Core.List.{List, []}
 use mathlib.Core.Path.{_≡_, refl, sym, ap, subst, _∙_}
-use Rattle.reason.specs.Numbers.{Notice}
+use Rattle.reason.specs.ReasonNumbers.{Notice}
 use Rattle.lines.specs.Lines.{linesOf}
 use Rattle.tables.specs.Room.{Tables, roomOf}
 use Rattle.edits.specs.Formats.{mayOpen}
@@ -18,8 +18,8 @@ use Rattle.step.specs.Moves.{allWell}
 use Rattle.step.specs.Steps.{Out}
 use Rattle.walk.specs.AtEnd.{refused-by-edit}
 use Rattle.walk.specs.Calls.{Lending, walked, leaves, wholeFile}
-use Rattle.walk.specs.Employers.{Reported, reported}
-use Rattle.walk.specs.Means.{walk-means}
+use Rattle.walk.specs.EmployersReported.{Reported, reported}
+use Rattle.walk.specs.WalkMeans.{walk-means}
 
 -- What the manual says of a file with these edits, of what a caller has at the end.
 pub record AsInManual (format : Format) (edits : List LineEdit) (file : List ℕ) (t : Tables) (o : Out) : Type 0 where

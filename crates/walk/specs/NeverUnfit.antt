@@ -7,7 +7,7 @@ use mathlib.Core.Path.{_≡_, refl, sym, ap, subst, _∙_}
 use native.Mathlib.Omega.{arith}
 use lib.ListN.{length, length-replicate}
 use Rattle.laws.specs.Choice.{if_then_else_}
-use Rattle.reason.specs.Numbers.{Notice, notice}
+use Rattle.reason.specs.ReasonNumbers.{Notice, notice}
 use Rattle.lines.specs.Lines.{Line, firstLine}
 use Rattle.edits.specs.FormatLaws.{opens-known}
 use Rattle.edits.specs.Formats.{mayOpen, isOfOpening}
@@ -15,9 +15,9 @@ use Rattle.edits.specs.declared.Opening.{Opening}
 use Rattle.edits.specs.declared.Phase.{Phase}
 use Rattle.edits.specs.declared.Phase.the-variants.{BeforeA, AfterA, EOpen, AfterT, AfterF}
 use Rattle.shape.specs.Shape.{Judged, refusal, passed}
-use Rattle.record.specs.Formats.{shapeOf, lawfulOf}
+use Rattle.record.specs.ShapeOf.{shapeOf, lawfulOf}
 use Rattle.record.specs.Laws.{refusal-left}
-use Rattle.shape.specs.EndLaws.{endTest}
+use Rattle.shape.specs.EndOfInputLaws.{endTest}
 use Rattle.shape.specs.declared.Said.{Said}
 use Rattle.tables.specs.Pad.{length-pad}
 use Rattle.tables.specs.Room.{Room, Tables, roomOf, zeroed}
@@ -36,7 +36,7 @@ use Rattle.walk.specs.At.{walkAt, acceptedAt, tablesAt, Good}
 use Rattle.walk.specs.Calls.{refusedWith, leaves}
 use Rattle.walk.specs.CallLaws.{file-sound-at}
 use Rattle.walk.specs.GoodLaws.{good-none}
-use Rattle.walk.specs.Means.{again-line, again-end, ends-by, line-refused, line-taken, taken-good}
+use Rattle.walk.specs.WalkMeans.{again-line, again-end, ends-by, line-refused, line-taken, taken-good}
 use Rattle.walk.specs.StepLaws.{entries-within}
 use Rattle.walk.specs.TablesAt.{opened-at}
 

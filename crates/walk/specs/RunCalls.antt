@@ -12,8 +12,8 @@ use Rattle.lines.specs.Lines.{firstLine}
 use Rattle.tables.specs.Room.{Tables}
 use Rattle.state.specs.Walks.{Walk}
 use Rattle.step.specs.Steps.{Out, lineStep}
-use Rattle.walk.specs.Runs.{linesStep}
-use Rattle.walk.specs.RunLaws.{lines-carry, refused-alone}
+use Rattle.walk.specs.LineAndRun.{linesStep}
+use Rattle.walk.specs.LineAndRunLaws.{lines-carry, refused-alone}
 
 -- Where a caller stands after some line calls: the bytes taken so far, the state and the tables.
 pub record Stood : Type 0 where

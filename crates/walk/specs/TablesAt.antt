@@ -18,7 +18,7 @@ use Rattle.step.specs.MoveLaws.{open-allowed}
 use Rattle.step.specs.Steps.{Out, openStep, lineStep}
 use Rattle.walk.specs.At.{walkAt, tablesAt, Good}
 use Rattle.walk.specs.GoodLaws.{good-none}
-use Rattle.walk.specs.Means.{from-start, line-refused, line-taken, taken-good}
+use Rattle.walk.specs.WalkMeans.{from-start, line-refused, line-taken, taken-good}
 
 -- Line calls, one after the other, that all take their line: none answers that it took 0 bytes.
 abbrev pub AllTaken : List (List ℕ) → Out → Type 0

@@ -28,7 +28,7 @@ use Rattle.step.specs.MoveLaws.{line-cases}
 use Rattle.step.specs.Moves.{Moved, byVerdict, contextOf, byStanding, lineMoved}
 use Rattle.step.specs.Steps.{Out, listedFein, listedId, openStep, lineStep, endStep}
 use Rattle.walk.specs.Calls.{Lending, calls, wholeFile}
-use Rattle.walk.specs.Means.{next, walk-means}
+use Rattle.walk.specs.WalkMeans.{next, walk-means}
 
 -- All that remains.
 abbrev pub all : ℕ → ℕ

@@ -4,7 +4,7 @@ use mathlib.Core.Bool.{true, false, false≢true}
 use mathlib.Core.Path.{_≡_, refl, sym, ap, _∙_}
 use native.Mathlib.Omega.{arith}
 use borrow.Author.Tests.{not-false}
-use Rattle.reason.specs.Numbers.{Notice}
+use Rattle.reason.specs.ReasonNumbers.{Notice}
 use Rattle.chars.specs.Characters.{capitals}
 use Rattle.lines.specs.Lines.{Line}
 use Rattle.edits.specs.declared.Phase.{Phase}

@@ -2,7 +2,7 @@ pub mod Records
 pub mod Writing
 pub mod WritingLaws
 pub mod PartLaws
-pub mod FieldLaws
+pub mod TotalFields
 pub mod Accepted
 pub mod Made
 pub mod Theorems

@@ -2,7 +2,7 @@
 use Prim.Native.Nat.{ℕ}
 use mathlib.Core.List.{List}
 use mathlib.Core.Path.{_≡_, refl, sym, ap}
-use Rattle.reason.specs.Numbers.{Notice}
+use Rattle.reason.specs.ReasonNumbers.{Notice}
 use Rattle.reason.specs.Once.{never-zero, same-notice}
 use Rattle.write.specs.Writing.{Writing, noticeIn, writtenBy}
 use Rattle.write.specs.declared.Wrote.{Wrote}

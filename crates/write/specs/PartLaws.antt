@@ -15,7 +15,7 @@ use Rattle.laws.specs.Table.{every, at, is-true, both-left, both-right}
 use Rattle.chars.specs.Columns.{widthOf}
 use Rattle.number.specs.Numbers.{numberIn}
 use Rattle.number.specs.NumberLaws.{number-below, read-back}
-use Rattle.number.specs.ColumnLaws.{put-number-length, put-number-elsewhere, same-digits, number-alike, number-digits}
+use Rattle.number.specs.NumberColumnLaws.{put-number-length, put-number-elsewhere, same-digits, number-alike, number-digits}
 use Rattle.text.specs.Put.{blanks}
 use Rattle.text.specs.PutLaws.{put-text-length, put-text-elsewhere, put-text-at}
 use Rattle.write.specs.Records.{Part, text, number, blank, put, putAll, recordOf}

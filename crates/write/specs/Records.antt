@@ -1,7 +1,7 @@
 -- The T and the F record that are written.
 use Prim.Native.Nat.{ℕ}
 use mathlib.Core.List.{List, [], _∷_}
-use Rattle.laws.specs.Text.{bytes}
+use Rattle.laws.specs.Spelling.{bytes}
 use Rattle.number.specs.Numbers.{putNumber}
 use Rattle.text.specs.Put.{blanks, putText}
 use Rattle.edits.specs.declared.Open.{Open}

@@ -8,9 +8,9 @@ use lib.Dec.{eqb, leb}
 use lib.ListN.{length}
 use borrow.Author.Tests.{leb-false, lt-leb, eq-eqb}
 use Rattle.laws.specs.Choice.{both-hold}
-use Rattle.laws.specs.Text.{bytes}
-use Rattle.reason.specs.Numbers.{Notice, notice}
-use Rattle.lines.specs.Ends.{LineEnd, endBytes}
+use Rattle.laws.specs.Spelling.{bytes}
+use Rattle.reason.specs.ReasonNumbers.{Notice, notice}
+use Rattle.lines.specs.MadeLines.{LineEnd, endBytes}
 use Rattle.lines.specs.Lines.{firstLine}
 use Rattle.chars.specs.Characters.{capitals}
 use Rattle.chars.specs.CharacterLaws.{capitals-length}
@@ -18,7 +18,7 @@ use Rattle.number.specs.NumberLaws.{number-below}
 use Rattle.edits.specs.EditLaws.{AllFine}
 use Rattle.edits.specs.FormatLaws.{pfml-is}
 use Rattle.edits.specs.Formats.{isPfml}
-use Rattle.edits.specs.Lists.{fieldEdits}
+use Rattle.edits.specs.FieldEdits.{fieldEdits}
 use Rattle.edits.specs.declared.Context.{Context}
 use Rattle.edits.specs.declared.Phase.the-variants.{EOpen, AfterT}
 use Rattle.edits.specs.declared.Seen.{Seen}
@@ -41,7 +41,7 @@ use Rattle.state.specs.Walks.{reading, Walk}
 use Rattle.step.specs.Moves.{allWell, walkAfter, contextOf}
 use Rattle.step.specs.Steps.{Out, lineStep}
 use Rattle.write.specs.Accepted.{open-stands, after-T-stands, asked, Passing, accepted-passing}
-use Rattle.write.specs.FieldLaws.{total-fine, fine-total, final-fine, fine-final}
+use Rattle.write.specs.TotalFields.{total-fine, fine-total, final-fine, fine-final}
 use Rattle.write.specs.Made.{made-accepted}
 use Rattle.write.specs.PartLaws.{AllFit, record-holds, record-only}
 use Rattle.write.specs.Records.{recordOf, partsOfT, partsOfF, totalRecord, finalRecord}

@@ -5,7 +5,7 @@ use mathlib.Core.List.{List}
 use lib.Dec.{eqb, leb}
 use lib.ListN.{length}
 use Rattle.laws.specs.Choice.{if_then_else_}
-use Rattle.reason.specs.Numbers.{Notice, notice, noticeOf}
+use Rattle.reason.specs.ReasonNumbers.{Notice, notice, noticeOf}
 use Rattle.edits.specs.Formats.{isPfml}
 use Rattle.edits.specs.declared.Open.{Open}
 use Rattle.edits.specs.declared.Phase.the-variants.{BeforeA, AfterA, EOpen, AfterT, AfterF}

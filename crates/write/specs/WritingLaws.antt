@@ -6,7 +6,7 @@ use mathlib.Core.Path.{_≡_, refl, sym, ap, _∙_}
 use native.Mathlib.Omega.{arith}
 use lib.Dec.{eqb}
 use borrow.Author.Tests.{eqb-true, ne-eqb}
-use Rattle.reason.specs.Numbers.{Notice, notice}
+use Rattle.reason.specs.ReasonNumbers.{Notice, notice}
 use Rattle.reason.specs.Once.{never-zero}
 use Rattle.reason.specs.declared.Refusal.{Refusal}
 use Rattle.step.specs.Moves.{allWell}

@@ -11,7 +11,7 @@ use state::fitness;
 use text::put;
 ghost use mathlib.Core.Path.{_≡_};
 ghost use lib.ListN.{length};
-ghost use Rattle.reason.specs.Numbers.{notice, numberOf};
+ghost use Rattle.reason.specs.ReasonNumbers.{notice, numberOf};
 ghost use Rattle.state.specs.Unfit.{unfit};
 ghost use Rattle.state.specs.Walks.{reading, walkOf, standingOf};
 ghost use Rattle.write.specs.Records.{totalRecord, finalRecord};

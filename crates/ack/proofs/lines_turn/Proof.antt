@@ -23,8 +23,8 @@ use Rattle.step.proofs.Answer as An
 use Rattle.step.proofs.Answer.Laws as An′
 use Rattle.step.proofs.Reply as R
 use Rattle.step.proofs.Reply.Laws as R′
-use Rattle.walk.specs.RunLaws.{run-within, run-farther}
-use Rattle.walk.proofs.Values.{state-val, reply-val, reply-in, state-in}
+use Rattle.walk.specs.LineAndRunLaws.{run-within, run-farther}
+use Rattle.walk.proofs.WalkValues.{state-val, reply-val, reply-in, state-in}
 use Rattle.walk.proofs.Called.{lines-at, ends as end-call}
 use Rattle.walk.proofs.lines_at.Symbol.{name as #lines-at, routine as lines-at-routine}
 use Rattle.walk.proofs.lines_at.Met as lines-at-met
@@ -40,8 +40,8 @@ use Rattle.ack.proofs.Place as P
 use Rattle.ack.proofs.Place.Laws as P′
 use Rattle.ack.proofs.Turned as N
 use Rattle.ack.proofs.Turned.Laws as N′
-use Rattle.ack.proofs.Values.{place-val, turned-val, at-in, last-in}
-use Rattle.ack.proofs.Lent.{Lent, bytes-val, ids-val, list-val, Having, lends-both, both-back}
+use Rattle.ack.proofs.TurnValues.{place-val, turned-val, at-in, last-in}
+use Rattle.ack.proofs.TurnLent.{Lent, bytes-val, ids-val, list-val, Having, lends-both, both-back}
 use Rattle.ack.proofs.Called.{takes-line, place-behind, finished, walking}
 use Rattle.ack.proofs.takes_line.Symbol.{name as #takes-line, routine as takes-line-routine}
 use Rattle.ack.proofs.takes_line.Met as takes-line-met

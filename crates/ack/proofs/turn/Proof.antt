@@ -26,7 +26,7 @@ use Rattle.state.proofs.State.Laws as S′
 use Rattle.step.specs.Steps.{Out, openStep}
 use Rattle.step.proofs.Answer as An
 use Rattle.step.proofs.Answer.Laws as An′
-use Rattle.walk.proofs.Values.{opening-val, state-val, state-in}
+use Rattle.walk.proofs.WalkValues.{opening-val, state-val, state-in}
 use Rattle.walk.proofs.Called.{opens as open-call}
 use Rattle.walk.proofs.open.Symbol.{name as #open, routine as open-routine}
 use Rattle.walk.proofs.open.Met as open-met
@@ -42,8 +42,8 @@ use Rattle.ack.proofs.Start as B
 use Rattle.ack.proofs.Start.Laws as B′
 use Rattle.ack.proofs.Turned as N
 use Rattle.ack.proofs.Turned.Laws as N′
-use Rattle.ack.proofs.Values.{format-val, progress-val, start-val, turned-val, opens-in, walks-in, skips-in, begun-in}
-use Rattle.ack.proofs.Lent.{Lent, bytes-val, ids-val, list-val, Having, lends-both, both-back}
+use Rattle.ack.proofs.TurnValues.{format-val, progress-val, start-val, turned-val, opens-in, walks-in, skips-in, begun-in}
+use Rattle.ack.proofs.TurnLent.{Lent, bytes-val, ids-val, list-val, Having, lends-both, both-back}
 use Rattle.ack.proofs.Called.{header, start-of, lines-turn}
 use Rattle.ack.proofs.header.Symbol.{name as #header, routine as header-routine}
 use Rattle.ack.proofs.header.Met as header-met

@@ -1,7 +1,7 @@
 -- `build::build` meets its contract.
 use mathlib.Core.Path.{sym, ap, _∙_}
 use borrow.Author.Needs.{needs}
-use Rattle.reason.specs.Numbers.{findingOf}
+use Rattle.reason.specs.ReasonNumbers.{findingOf}
 use Rattle.build.specs.FillLaws.{padded-is}
 use Rattle.build.specs.BuildLaws.{wrong-length, turned-away, built}
 use Rattle.build.proofs.build.Statement.{statement}

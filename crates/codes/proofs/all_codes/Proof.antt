@@ -1,6 +1,6 @@
 -- `codes::all_codes` meets its contract: the constant is the two lists of the definition, computed.
 use Rattle.codes.specs.Codes.{codesIn, states, provinces}
-use Rattle.laws.specs.Text.{bytes}
+use Rattle.laws.specs.Spelling.{bytes}
 use mathlib.Core.Path.{refl}
 use Rattle.codes.proofs.all_codes.Statement.{statement}
 use Rattle.codes.proofs.all_codes.Tie as tie

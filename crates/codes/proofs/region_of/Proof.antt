@@ -4,7 +4,7 @@ use Prim.Native.Nat.{_-_}
 use mathlib.Core.Path.{sym, _∙_}
 use borrow.Author.Count.{below-none, below-more}
 use borrow.Author.Needs.{needs}
-use Rattle.codes.proofs.Rows.{Passed, is-state, is-province, is-unknown}
+use Rattle.codes.proofs.CodeRows.{Passed, is-state, is-province, is-unknown}
 use Rattle.codes.proofs.region_of.Statement.{statement}
 use Rattle.codes.proofs.region_of.Tie as tie
 

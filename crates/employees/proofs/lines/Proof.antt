@@ -6,7 +6,7 @@ use native.Mathlib.Omega.{arith}
 use lib.ListN.{length}
 use borrow.Author.Needs.{needs}
 use borrow.Author.Tests.{not-true, not-false}
-use Rattle.employees.specs.TurnLaws.{all-taken, Going, seen-id, seen-within, ends-here, taken-sums, still-going}
+use Rattle.employees.specs.RunTurnLaws.{all-taken, Going, seen-id, seen-within, ends-here, taken-sums, still-going}
 use Rattle.state.specs.Walks.{walkOf}
 use Rattle.employees.proofs.lines.Statement.{statement}
 use Rattle.employees.proofs.lines.Tie as tie

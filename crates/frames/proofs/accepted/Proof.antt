@@ -6,7 +6,7 @@ use borrow.Author.Needs.{needs}
 use borrow.Author.Tests.{lt-ltb, le-ltb}
 use Rattle.frames.proofs.accepted.Statement.{statement}
 use Rattle.frames.proofs.accepted.Tie as tie
-use Rattle.frames.specs.Parts.{acceptedSize}
+use Rattle.frames.specs.FrameParts.{acceptedSize}
 
 returns : tie.Need-returns
 returns c = rw (← c .before .accepted-size .ensures, lt-ltb _ _ (c .if1 .taken))

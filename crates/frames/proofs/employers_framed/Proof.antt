@@ -11,7 +11,7 @@ use Rattle.frames.proofs.employers_framed.Statement.{statement}
 use Rattle.frames.proofs.employers_framed.Tie as tie
 use Rattle.frames.specs.FrameLaws.{is-accepted}
 use Rattle.frames.specs.Frames.{isAccepted}
-use Rattle.frames.specs.Parts.{standingEmployers, employersFramed}
+use Rattle.frames.specs.FrameParts.{standingEmployers, employersFramed}
 
 none-framed : (walk : Walk) (size : ℕ) (s : Standing) → isAccepted s ≡ false → standingEmployers walk size s ≡ 0
 none-framed walk size (walks.reading phase) e = refl

@@ -16,7 +16,7 @@ use Rattle.state.proofs.State as S
 use Rattle.state.proofs.State.Laws as S′
 use Rattle.frames.specs.declared.Framed.{Framed}
 use Rattle.frames.specs.Frames.{framedBy, framing}
-use Rattle.frames.specs.Parts.{employersFramed, lastFraming, HasRoom, framed-has, front, both-parts}
+use Rattle.frames.specs.FrameParts.{employersFramed, lastFraming, HasRoom, framed-has, front, both-parts}
 use Rattle.frames.proofs.Framed as F
 use Rattle.frames.proofs.Framed.Laws as F′
 use Rattle.frames.proofs.Called.{put-employers, employers-framed, last-frame}

@@ -18,7 +18,7 @@ use Rattle.frames.proofs.last_frame.Statement.{statement}
 use Rattle.frames.proofs.last_frame.Tie as tie
 use Rattle.frames.specs.FrameLaws.{is-accepted}
 use Rattle.frames.specs.Frames.{untouched, isAccepted}
-use Rattle.frames.specs.Parts.{standingLast, lastFraming}
+use Rattle.frames.specs.FrameParts.{standingLast, lastFraming}
 
 -- The stage that is left where a walk was neither accepted nor, by its tag, refused.
 not-ended : (walk : Walk) (out : List ℕ) (stage : Stage) → OneOf (0 ∷ 1 ∷ []) (tagOf the-type stage)

@@ -18,7 +18,7 @@ use Rattle.tables.proofs.list.entry_at.Symbol.{name as #entry-at, routine as en
 use Rattle.tables.proofs.list.entry_at.Met as entry-at-met
 use Rattle.frames.specs.FrameLaws.{none-written, one-more}
 use Rattle.frames.specs.Frames.{employerFrame}
-use Rattle.frames.specs.Parts.{front, front-length}
+use Rattle.frames.specs.FrameParts.{front, front-length}
 use Rattle.frames.specs.Pasted.{pasted}
 use Rattle.frames.proofs.Called.{put-employer}
 use Rattle.frames.proofs.put_employer.Symbol.{name as #put-employer, routine as put-employer-routine}

@@ -3,7 +3,7 @@ use mathlib.Core.Path.{sym, _∙_}
 use native.Mathlib.Omega.{arith}
 use borrow.Author.Needs.{needs}
 use lib.ListN.{length-set}
-use Rattle.reason.specs.Numbers.{noticeOf}
+use Rattle.reason.specs.ReasonNumbers.{noticeOf}
 use Rattle.frames.proofs.refused.Statement.{statement}
 use Rattle.frames.proofs.refused.Tie as tie
 use Rattle.frames.specs.FrameLaws.{refusal-length, frame-written, too-small, fits}

@@ -9,7 +9,7 @@ use Rattle.lines.proofs.cut_line.Statement.{statement}
 use Rattle.lines.proofs.cut_line.Tie as tie
 use Rattle.lines.specs.Laws.{end-short}
 use Rattle.lines.specs.Lines.{textOf, endOf, firstLine}
-use Rattle.lines.specs.Outcomes.{too-long, too-short, no-end, takes}
+use Rattle.lines.specs.CutOutcomes.{too-long, too-short, no-end, takes}
 
 -- The end of the first line, from where its text stops.
 end-is : (s : List ℕ) (size bytes : ℕ) → length (textOf s) ≡ size → bytes ≡ length (endOf (drop size s)) → length (firstLine s .ending) ≡ bytes

@@ -1,6 +1,6 @@
 -- `pfml::fields_between` meets its contract.
 use borrow.Author.Needs.{needs}
-use Rattle.laws.specs.Text.{bytes}
+use Rattle.laws.specs.Spelling.{bytes}
 use Rattle.pfml.proofs.fields_between.Statement.{statement}
 use Rattle.pfml.proofs.fields_between.Tie as tie
 

@@ -2,8 +2,8 @@
 use mathlib.Core.Path.{sym, ap, _∙_}
 use borrow.Author.Needs.{needs}
 use Rattle.chars.specs.Characters.{capitals}
-use Rattle.reason.specs.Numbers.{findingOf}
-use Rattle.pfml.specs.Parts.{head-breaks, head-passes}
+use Rattle.reason.specs.ReasonNumbers.{findingOf}
+use Rattle.pfml.specs.TextParts.{head-breaks, head-passes}
 use Rattle.pfml.proofs.kind_edit.Statement.{statement}
 use Rattle.pfml.proofs.kind_edit.Tie as tie
 

@@ -2,7 +2,7 @@
 use mathlib.Core.Path.{sym, ap, _∙_}
 use borrow.Author.Needs.{needs}
 use Rattle.edits.specs.EditLaws.{first-append, first-one}
-use Rattle.reason.specs.Numbers.{findingOf}
+use Rattle.reason.specs.ReasonNumbers.{findingOf}
 use Rattle.pfml.proofs.placed_edit.Statement.{statement}
 use Rattle.pfml.proofs.placed_edit.Tie as tie
 

@@ -1,6 +1,6 @@
 -- `plain::lowest` meets its contract: the numbers are put into the constant.
 use borrow.Author.Needs.{needs}
-use Rattle.laws.specs.Text.{bytes}
+use Rattle.laws.specs.Spelling.{bytes}
 use Rattle.plain.proofs.lowest.Statement.{statement}
 use Rattle.plain.proofs.lowest.Tie as tie
 use Rattle.plain.specs.Plain.{lowestOfAll}

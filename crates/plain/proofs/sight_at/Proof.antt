@@ -7,7 +7,7 @@ use lib.ListN.{length, drop, length-drop}
 use lib.Seq.{take-all}
 use Rattle.plain.proofs.sight_at.Statement.{statement}
 use Rattle.plain.proofs.sight_at.Tie as tie
-use Rattle.plain.specs.Outcomes.{too-short}
+use Rattle.plain.specs.SightOutcomes.{too-short}
 use Rattle.plain.specs.Plain.{sight}
 
 past : tie.Need-returns

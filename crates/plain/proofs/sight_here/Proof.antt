@@ -12,7 +12,7 @@ use Rattle.chars.specs.Columns.{everyColumn, isFine}
 use Rattle.chars.specs.declared.columns.Allowed.the-variants.{OfNames}
 use Rattle.plain.proofs.sight_here.Statement.{statement}
 use Rattle.plain.proofs.sight_here.Tie as tie
-use Rattle.plain.specs.Outcomes.{not-between, no-names, no-end, not-filed, is-plain}
+use Rattle.plain.specs.SightOutcomes.{not-between, no-names, no-end, not-filed, is-plain}
 use Rattle.plain.specs.Plain.{within, endSize}
 
 -- ---- what is known where a test has passed

@@ -32,7 +32,7 @@ use Rattle.ack.proofs.Called.{turn}
 use Rattle.ack.proofs.turn.Symbol.{name as #turn, routine as turn-routine}
 use Rattle.ack.proofs.turn.Met as turn-met
 use Rattle.ack.specs.declared.Turned.{Turned as Turned′}
-use Rattle.ack.proofs.Values.{format-val, progress-val, turned-val, progress-in}
+use Rattle.ack.proofs.TurnValues.{format-val, progress-val, turned-val, progress-in}
 use Rattle.program.specs.declared.Between.{Between}
 use Rattle.program.specs.declared.Held.{Held}
 use Rattle.program.specs.declared.Telling.{Telling}

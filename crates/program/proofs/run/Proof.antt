@@ -16,7 +16,7 @@ use Rattle.tables.proofs.Employer as T
 use Rattle.tables.proofs.Employer.Laws as T′
 use Rattle.tables.proofs.Entries.{at-rest}
 use Rattle.by_hand.proofs.Walk.{URA, Heap, Atoms, Given, Memory, Routine, Fun, SProp, Env, Tables, Val, Is, Sq, Triple, Places, Ends, gone, Exit, finishes, proves, locals, envOf, lets-go, lose, var, sets, receives, big-lit, Asked, held, made, asks, unsaid, array-at, agg, addr, from, stop, lit, unit-lit, none, some, fullShare, w8, w32, vunit, spotOf, givenOf, tables, tablesOf, fmOf, runs, atRet, _$_, !, by, move, look, of-opd, and-then, no-more, returns, nothing-makes, sliceVal, cited}
-use Rattle.ack.proofs.Values.{format-val}
+use Rattle.ack.proofs.TurnValues.{format-val}
 use Rattle.program.specs.declared.Telling.{Telling}
 use Rattle.program.proofs.Telling as Te
 use Rattle.program.proofs.Telling.Laws as Te′

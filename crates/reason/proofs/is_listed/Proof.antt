@@ -2,7 +2,7 @@
 use borrow.Author.Needs.{needs}
 use Rattle.reason.proofs.is_listed.Statement.{statement}
 use Rattle.reason.proofs.is_listed.Tie as tie
-use Rattle.reason.specs.Numbers.{isListed}
+use Rattle.reason.specs.ReasonNumbers.{isListed}
 
 returns : tie.Need-returns
 unfolding isListed

@@ -3,7 +3,7 @@ use mathlib.Core.Path.{sym, ap, _∙_}
 use native.Mathlib.Nat.{sub-zero}
 use Rattle.lines.specs.Cutting.{cutOf}
 use Rattle.lines.specs.Lines.{firstLine}
-use Rattle.record.specs.Formats.{shapeOf}
+use Rattle.record.specs.ShapeOf.{shapeOf}
 use Rattle.record.specs.Judge.{judge}
 use Rattle.shape.specs.Theorems.{cut-refuses, cut-takes, taken-fits, taken-text}
 use borrow.Author.Needs.{needs}

@@ -1,6 +1,6 @@
 -- `record::judge_text` meets its contract.
 use mathlib.Core.Path.{sym, ap, _∙_}
-use Rattle.reason.specs.Numbers.{findingOf}
+use Rattle.reason.specs.ReasonNumbers.{findingOf}
 use borrow.Author.Needs.{needs}
 use Rattle.record.proofs.judge_text.Statement.{statement}
 use Rattle.record.proofs.judge_text.Tie as tie

@@ -2,7 +2,7 @@
 use mathlib.Core.Path.{sym, ap, _∙_}
 use borrow.Author.Needs.{needs}
 use Rattle.edits.specs.declared.format.Format.{Format}
-use Rattle.record.specs.Formats.{shapeOf}
+use Rattle.record.specs.ShapeOf.{shapeOf}
 use Rattle.record.proofs.quarter_unfit.Statement.{statement}
 use Rattle.record.proofs.quarter_unfit.Tie as tie
 

@@ -4,7 +4,7 @@ use borrow.Author.Needs.{needs}
 use Rattle.edits.specs.declared.Phase.the-variants.{BeforeA, AfterA, EOpen, AfterT, AfterF}
 use Rattle.shape.proofs.end_edit.Statement.{statement}
 use Rattle.shape.proofs.end_edit.Tie as tie
-use Rattle.shape.specs.EndLaws.{end-parts}
+use Rattle.shape.specs.EndOfInputLaws.{end-parts}
 
 returns : tie.Need-returns
 returns c = rw (c .enum-told .given .1) (sym (end-parts BeforeA))

@@ -9,7 +9,7 @@ use Rattle.state_words.proofs.put_words.Statement.{statement}
 use Rattle.state_words.proofs.put_words.Tie as tie
 use Rattle.state_words.specs.Words.{wordCount, putWords, walkIn}
 use Rattle.state_words.specs.Theorems.{words-back}
-use Rattle.state_words.specs.Writing.{words-length, written, one-more, too-few, all-written}
+use Rattle.state_words.specs.WordsWritten.{words-length, written, one-more, too-few, all-written}
 
 abbrev Inv : tie.InvT-loop
 Inv words₀ from i₀ words i = (i ≤ wordCount) × (length words ≡ length words₀) × (words ≡ written from i words₀)

@@ -4,7 +4,7 @@ use borrow.Author.Needs.{needs}
 use Rattle.state.specs.Walks.{walkOf}
 use Rattle.state_words.proofs.words_of.Statement.{statement}
 use Rattle.state_words.proofs.words_of.Tie as tie
-use Rattle.state_words.specs.Writing.{words-told}
+use Rattle.state_words.specs.WordsWritten.{words-told}
 
 returns : tie.Need-returns
 returns c =

@@ -1,7 +1,7 @@
 -- `step::end_reading` meets its contract.
 use mathlib.Core.Path.{sym, ap, _∙_}
 use borrow.Author.Needs.{needs}
-use Rattle.reason.specs.Numbers.{findingOf}
+use Rattle.reason.specs.ReasonNumbers.{findingOf}
 use Rattle.step.proofs.end_reading.Statement.{statement}
 use Rattle.step.proofs.end_reading.Tie as tie
 

@@ -1,7 +1,7 @@
 -- `text::all_blank` meets its contract.
 use mathlib.Core.Path.{sym, ap, _∙_}
 use borrow.Author.Needs.{needs}
-use Rattle.reason.specs.Numbers.{findingOf}
+use Rattle.reason.specs.ReasonNumbers.{findingOf}
 use Rattle.text.specs.Text.{allBlank}
 use Rattle.text.proofs.all_blank.Statement.{statement}
 use Rattle.text.proofs.all_blank.Tie as tie

@@ -22,11 +22,11 @@ use Rattle.frames.proofs.Framed as F
 use Rattle.frames.proofs.Framed.Laws as F′
 use Rattle.frames.proofs.frames.Symbol.{name as #frames, routine as frames-routine}
 use Rattle.frames.proofs.frames.Met as frames-met
-use Rattle.walk.proofs.Values.{state-val}
+use Rattle.walk.proofs.WalkValues.{state-val}
 use Rattle.wage.specs.Exports.{Filled, filledFrames}
 use Rattle.wage.specs.ExportLaws.{has-framing}
 use Rattle.wage.proofs.Called.{state-in, tell-framed}
-use Rattle.wage.proofs.Lent.{valOf}
+use Rattle.wage.proofs.SlicesLent.{valOf}
 use Rattle.wage.proofs.tell_framed.Symbol.{name as #tell-framed, routine as tell-framed-routine}
 use Rattle.wage.proofs.tell_framed.Met as tell-framed-met
 use Rattle.wage.proofs.wage_frames as f

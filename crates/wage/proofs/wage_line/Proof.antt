@@ -18,13 +18,13 @@ use Rattle.step.proofs.Answer as An
 use Rattle.step.proofs.Answer.Laws as An′
 use Rattle.state_words.proofs.state_in.Symbol.{name as #state-in, routine as state-in-routine}
 use Rattle.state_words.proofs.state_in.Met as state-in-met
-use Rattle.walk.proofs.Values.{state-val}
+use Rattle.walk.proofs.WalkValues.{state-val}
 use Rattle.walk.proofs.line.Symbol.{name as #line, routine as line-routine}
 use Rattle.walk.proofs.line.Met as line-met
 use Rattle.wage.specs.Exports.{Called, Continued, lineThrough}
 use Rattle.wage.proofs.Called.{state-in, lines, tell}
-use Rattle.wage.proofs.Lent.{valOf}
-use Rattle.wage.proofs.Steps.{reads-state, tells}
+use Rattle.wage.proofs.SlicesLent.{valOf}
+use Rattle.wage.proofs.StateSteps.{reads-state, tells}
 use Rattle.wage.proofs.tell.Symbol.{name as #tell, routine as tell-routine}
 use Rattle.wage.proofs.tell.Met as tell-met
 use Rattle.wage.proofs.wage_line as f

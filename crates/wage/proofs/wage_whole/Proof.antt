@@ -18,14 +18,14 @@ use Rattle.step.specs.Steps.{Out}
 use Rattle.step.proofs.Answer as An
 use Rattle.step.proofs.Answer.Laws as An′
 use Rattle.walk.specs.Calls.{wholeFile}
-use Rattle.walk.proofs.Values.{opening-val}
+use Rattle.walk.proofs.WalkValues.{opening-val}
 use Rattle.walk.proofs.whole.Symbol.{name as #whole, routine as whole-routine}
 use Rattle.walk.proofs.whole.Met as whole-met
 use Rattle.wage.specs.Exports.{Called, Opened, placed, openingOf}
 use Rattle.wage.specs.ExportLaws.{has-place, no-place}
 use Rattle.wage.proofs.Called.{opening, wholes, tell-no-place, tell-opened}
-use Rattle.wage.proofs.Lent.{valOf, spares}
-use Rattle.wage.proofs.Steps.{makes-opening, tells}
+use Rattle.wage.proofs.SlicesLent.{valOf, spares}
+use Rattle.wage.proofs.StateSteps.{makes-opening, tells}
 use Rattle.wage.proofs.opening.Symbol.{name as #opening, routine as opening-routine}
 use Rattle.wage.proofs.opening.Met as opening-met
 use Rattle.wage.proofs.tell_no_place.Symbol.{name as #tell-no-place, routine as tell-no-place-routine}

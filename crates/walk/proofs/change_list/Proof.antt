@@ -29,7 +29,7 @@ use Rattle.walk.specs.declared.Writes.{Writes}
 use Rattle.walk.specs.Writes.{writesOf, madeBy, writes-make}
 use Rattle.walk.proofs.Writes as P
 use Rattle.walk.proofs.Writes.Laws as P′
-use Rattle.walk.proofs.Values.{change-val}
+use Rattle.walk.proofs.WalkValues.{change-val}
 use Rattle.walk.proofs.Called.{writes-of}
 use Rattle.walk.proofs.writes_of.Symbol.{name as #writes-of, routine as writes-of-routine}
 use Rattle.walk.proofs.writes_of.Met as writes-of-met

@@ -24,7 +24,7 @@ use Rattle.step.proofs.Move.Laws as Mv′
 use Rattle.step.proofs.end_move.Symbol.{name as #end-move, routine as end-move-routine}
 use Rattle.step.proofs.end_move.Met as end-move-met
 use Rattle.walk.specs.Carry.{both-written, end-carried}
-use Rattle.walk.proofs.Values.{state-val, answer-val, change-val, change-in, answer-in}
+use Rattle.walk.proofs.WalkValues.{state-val, answer-val, change-val, change-in, answer-in}
 use Rattle.walk.proofs.Called.{end-move, change-ids, change-list}
 use Rattle.walk.proofs.change_ids.Symbol.{name as #change-ids, routine as change-ids-routine}
 use Rattle.walk.proofs.change_ids.Met as change-ids-met

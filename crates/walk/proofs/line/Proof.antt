@@ -18,7 +18,7 @@ use Rattle.state.proofs.State.Laws as S′
 use Rattle.step.specs.Steps.{outOf, lineStep}
 use Rattle.step.proofs.Answer as An
 use Rattle.step.proofs.Answer.Laws as An′
-use Rattle.walk.proofs.Values.{state-val, answer-val}
+use Rattle.walk.proofs.WalkValues.{state-val, answer-val}
 use Rattle.walk.proofs.Called.{line-at}
 use Rattle.walk.proofs.line_at.Symbol.{name as #line-at, routine as line-at-routine}
 use Rattle.walk.proofs.line_at.Met as line-at-met

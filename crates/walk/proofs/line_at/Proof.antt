@@ -33,7 +33,7 @@ use Rattle.walk.specs.Carry.{both-written, line-carried}
 use Rattle.walk.specs.declared.Asked.{Asked as Question}
 use Rattle.walk.proofs.Asked as K
 use Rattle.walk.proofs.Asked.Laws as K′
-use Rattle.walk.proofs.Values.{state-val, answer-val, change-val, move-val, change-in, answer-in}
+use Rattle.walk.proofs.WalkValues.{state-val, answer-val, change-val, move-val, change-in, answer-in}
 use Rattle.walk.proofs.Called.{asked-at, move-at, change-ids, change-list}
 use Rattle.walk.proofs.asked_at.Symbol.{name as #asked-at, routine as asked-at-routine}
 use Rattle.walk.proofs.asked_at.Met as asked-at-met

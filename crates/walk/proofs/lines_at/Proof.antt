@@ -18,9 +18,9 @@ use Rattle.step.proofs.Answer as An
 use Rattle.step.proofs.Answer.Laws as An′
 use Rattle.employees.proofs.behind.Symbol.{name as #behind, routine as behind-routine}
 use Rattle.employees.proofs.behind.Met as behind-met
-use Rattle.walk.specs.RunLaws.{both-left}
-use Rattle.walk.specs.Runs.{linesStep}
-use Rattle.walk.proofs.Values.{state-val, answer-val}
+use Rattle.walk.specs.LineAndRunLaws.{both-left}
+use Rattle.walk.specs.LineAndRun.{linesStep}
+use Rattle.walk.proofs.WalkValues.{state-val, answer-val}
 use Rattle.walk.proofs.Called.{line-at, behind}
 use Rattle.walk.proofs.line_at.Symbol.{name as #line-at, routine as line-at-routine}
 use Rattle.walk.proofs.line_at.Met as line-at-met

@@ -23,7 +23,7 @@ use Rattle.step.proofs.Move.Laws as Mv′
 use Rattle.step.proofs.open_move.Symbol.{name as #open-move, routine as open-move-routine}
 use Rattle.step.proofs.open_move.Met as open-move-met
 use Rattle.walk.specs.Carry.{both-written, open-carried}
-use Rattle.walk.proofs.Values.{opening-val, answer-val, change-val, change-in, answer-in}
+use Rattle.walk.proofs.WalkValues.{opening-val, answer-val, change-val, change-in, answer-in}
 use Rattle.walk.proofs.Called.{open-move, change-ids, change-list}
 use Rattle.walk.proofs.change_ids.Symbol.{name as #change-ids, routine as change-ids-routine}
 use Rattle.walk.proofs.change_ids.Met as change-ids-met

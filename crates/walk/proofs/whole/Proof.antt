@@ -27,8 +27,8 @@ use Rattle.step.proofs.Reply as R
 use Rattle.step.proofs.Reply.Laws as R′
 use Rattle.walk.specs.Calls.{calls, wholeFile}
 use Rattle.walk.specs.WholeLaws.{all, whole-means, loop-done}
-use Rattle.walk.specs.RunLaws.{run-within, run-next, run-farther}
-use Rattle.walk.proofs.Values.{opening-val, state-val, answer-val, reply-val, reply-in, state-in}
+use Rattle.walk.specs.LineAndRunLaws.{run-within, run-next, run-farther}
+use Rattle.walk.proofs.WalkValues.{opening-val, state-val, answer-val, reply-val, reply-in, state-in}
 use Rattle.walk.proofs.Called.{opens, lines-at, next-place, ends as end-call}
 use Rattle.walk.proofs.open.Symbol.{name as #open, routine as open-routine}
 use Rattle.walk.proofs.open.Met as open-met

@@ -1,6 +1,6 @@
 -- `write::put_f` meets its contract: field after field.
 use borrow.Author.Needs.{needs}
-use Rattle.laws.specs.Text.{bytes}
+use Rattle.laws.specs.Spelling.{bytes}
 use Rattle.write.proofs.put_f.Statement.{statement}
 use Rattle.write.proofs.put_f.Tie as tie
 use Rattle.write.specs.Records.{putAll, finalRecord}

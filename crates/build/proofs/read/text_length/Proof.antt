@@ -7,7 +7,7 @@ use lib.ListN.{length, take, drop}
 use borrow.Author.Needs.{needs}
 use Rattle.chars.specs.Characters.{capitals}
 use Rattle.chars.specs.CharacterLaws.{capitals-length}
-use Rattle.build.specs.TextLaws.{ink-start, ink-more, ink-found, ink-done}
+use Rattle.build.specs.BuiltTextLaws.{ink-start, ink-more, ink-found, ink-done}
 use Rattle.build.specs.Values.{trimmed, textIn}
 use Rattle.build.proofs.read.text_length.Statement.{statement}
 use Rattle.build.proofs.read.text_length.Tie as tie

@@ -6,7 +6,7 @@ use lib.Dec.{leb}
 use lib.ListN.{length-take}
 use borrow.Author.Needs.{needs}
 use borrow.Author.Tests.{le-leb}
-use Rattle.laws.specs.Text.{bytes}
+use Rattle.laws.specs.Spelling.{bytes}
 use Rattle.build.proofs.value.fits.Statement.{statement}
 use Rattle.build.proofs.value.fits.Tie as tie
 

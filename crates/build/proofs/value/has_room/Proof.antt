@@ -4,7 +4,7 @@ use mathlib.Core.Path.{_≡_, refl, sym, ap, _∙_}
 use native.Mathlib.Omega.{arith}
 use lib.Dec.{ltb}
 use borrow.Author.Needs.{needs}
-use Rattle.build.specs.TextLaws.{room-more, room-done}
+use Rattle.build.specs.BuiltTextLaws.{room-more, room-done}
 use Rattle.build.proofs.value.has_room.Statement.{statement}
 use Rattle.build.proofs.value.has_room.Tie as tie
 

@@ -1,6 +1,6 @@
 -- `build::value::put_code` meets its contract.
 use borrow.Author.Needs.{needs}
-use Rattle.laws.specs.Text.{bytes}
+use Rattle.laws.specs.Spelling.{bytes}
 use Rattle.build.proofs.value.put_code.Statement.{statement}
 use Rattle.build.proofs.value.put_code.Tie as tie
 

@@ -4,7 +4,7 @@ use lib.Seq.{take-nil}
 use borrow.Author.Needs.{needs}
 use Rattle.chars.specs.Columns.{widthOf}
 use Rattle.text.specs.Put.{putText}
-use Rattle.build.specs.TextLaws.{put-nothing}
+use Rattle.build.specs.BuiltTextLaws.{put-nothing}
 use Rattle.build.proofs.value.put_value.Statement.{statement}
 use Rattle.build.proofs.value.put_value.Tie as tie
 

@@ -3,7 +3,7 @@ use mathlib.Core.Path.{ap, _∙_}
 use native.Mathlib.Nat.{sub-zero}
 use borrow.Author.Needs.{needs}
 use Rattle.text.specs.Put.{putText}
-use Rattle.build.specs.TextLaws.{take-least}
+use Rattle.build.specs.BuiltTextLaws.{take-least}
 use Rattle.build.proofs.value.put_words.Statement.{statement}
 use Rattle.build.proofs.value.put_words.Tie as tie
 

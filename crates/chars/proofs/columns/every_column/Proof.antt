@@ -4,7 +4,7 @@ use mathlib.Core.Path.{_≡_, sym, ap, _∙_}
 use borrow.Author.Needs.{needs}
 use Rattle.laws.specs.Finding.{firstOf}
 use Rattle.laws.specs.First.{first-done, first-next, first-found}
-use Rattle.reason.specs.Numbers.{findingOf}
+use Rattle.reason.specs.ReasonNumbers.{findingOf}
 use Rattle.chars.specs.Characters.{capitals}
 use Rattle.chars.specs.Columns.{allowedTest, everyColumn}
 use Rattle.chars.specs.ColumnLaws.{column-of}

@@ -9,33 +9,33 @@ use mir.Val.{Fits}
 use borrow.Author.Needs.{needs}
 use Rattle.laws.specs.Finding.{firstOf}
 use Rattle.laws.specs.First.{first-done, first-next, first-found}
-use Rattle.reason.specs.Numbers.{findingOf}
+use Rattle.reason.specs.ReasonNumbers.{findingOf}
 use Rattle.reason.specs.declared.Edit.the-variants.{Passed}
 use Rattle.chars.specs.Characters.{capitals}
 use Rattle.chars.specs.Columns.{allowedTest}
 use Rattle.chars.specs.ColumnLaws.{column-of}
 use Rattle.field.specs.ClassTests.{classTest}
 use Rattle.field.specs.ClassLaws.{lead-breaks, lead-leaves}
-use Rattle.edits.specs.Fields.{Around, ruleOf}
+use Rattle.edits.specs.RuleNumbers.{Around, ruleOf}
 use Rattle.edits.specs.Tests.{fieldAt, fieldsTest}
 use Rattle.edits.specs.FieldLaws.{class-breaks, class-passes}
 use Rattle.edits.proofs.fields.first_broken.Statement.{statement}
 use Rattle.edits.proofs.fields.first_broken.Tie as tie
 
 abbrev Inv-loop : tie.InvT-loop
-Inv-loop marks code around seen line rows rules found₀ k class first last allowed at₀ found at =
+Inv-loop landmarks code around seen line rows rules found₀ k class first last allowed at₀ found at =
     (found ≡ Passed) × (classTest class (capitals line) first last ≡ firstOf (allowedTest allowed (capitals line)) at (last - at))
 
 abbrev μ-loop : tie.MeasureT-loop
-μ-loop marks code around seen line rows rules found₀ k class first last allowed at₀ found at = last - at
+μ-loop landmarks code around seen line rows rules found₀ k class first last allowed at₀ found at = last - at
 
 abbrev Inv-fields : tie.InvT-fields
-Inv-fields marks code around seen line rows rules found₀ k₀ found k =
-    let a : Around = record { marks = marks; code = code; here = around; seen = seen } in
+Inv-fields landmarks code around seen line rows rules found₀ k₀ found k =
+    let a : Around = record { landmarks = landmarks; code = code; here = around; seen = seen } in
     (found ≡ Passed) × (fieldsTest a (capitals line) rows rules ≡ firstOf (fieldAt a (capitals line) rows rules) k (length rows - k))
 
 abbrev μ-fields : tie.MeasureT-fields
-μ-fields marks code around seen line rows rules found₀ k₀ found k = length rows - k
+μ-fields landmarks code around seen line rows rules found₀ k₀ found k = length rows - k
 
 fields-holds : tie.Need-fields-holds Inv-loop μ-loop Inv-fields μ-fields
 unfolding fieldsTest
@@ -78,7 +78,7 @@ add-k c = let room = c .before .before .before .before .before .before .before .
 
 -- The columns of the field have passed: it says what its rules say.
 rules-say : (c : tie.After-rules-edit Inv-loop μ-loop Inv-fields μ-fields) → let o = c .before .before .before .before .before .before .before .before .before .before .before .before .before in let s = o .before .before .before .args in
-    fieldAt record { marks = s .marks; code = s .code; here = s .around; seen = s .seen } (capitals (s .line .now)) (s .rows .now) (s .rules .now) (o .fields .k)
+    fieldAt record { landmarks = s .landmarks; code = s .code; here = s .around; seen = s .seen } (capitals (s .line .now)) (s .rows .now) (s .rules .now) (o .fields .k)
     ≡ findingOf (c .rules-edit .result)
 rules-say c =
     let l = c .before .before .before .before in

@@ -3,7 +3,7 @@ use mathlib.Core.Path.{sym}
 use lib.ListN.{List·getD-eq-default}
 use borrow.Author.Needs.{needs}
 use Rattle.laws.specs.Lists.{any-default}
-use Rattle.edits.specs.Fields.{noRow}
+use Rattle.edits.specs.RuleNumbers.{noRow}
 use Rattle.edits.proofs.fields.row_at.Statement.{statement}
 use Rattle.edits.proofs.fields.row_at.Tie as tie
 

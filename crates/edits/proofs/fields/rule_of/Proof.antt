@@ -3,7 +3,7 @@ use Prim.Native.Nat.{ℕ, zero, suc, _+_, _≤_}
 use mathlib.Core.Path.{_≡_, refl, sym}
 use native.Mathlib.Omega.{arith}
 use lib.ListN.{List·getD-eq-default}
-use Rattle.edits.specs.Fields.{ruleList, ruleOf}
+use Rattle.edits.specs.RuleNumbers.{ruleList, ruleOf}
 use Rattle.edits.specs.declared.Rule.the-variants.{Nothing}
 use Rattle.edits.proofs.fields.rule_of.Statement.{statement}
 use Rattle.edits.proofs.fields.rule_of.Tie as tie

@@ -1,7 +1,7 @@
 -- `edits::fields::rules_edit` meets its contract.
 use mathlib.Core.Path.{sym, ap, _∙_}
 use borrow.Author.Needs.{needs}
-use Rattle.reason.specs.Numbers.{findingOf}
+use Rattle.reason.specs.ReasonNumbers.{findingOf}
 use Rattle.edits.specs.Tests.{rulesTest}
 use Rattle.edits.proofs.fields.rules_edit.Statement.{statement}
 use Rattle.edits.proofs.fields.rules_edit.Tie as tie

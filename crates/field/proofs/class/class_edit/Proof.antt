@@ -1,7 +1,7 @@
 -- `field::class::class_edit` meets its contract.
 use mathlib.Core.Path.{sym, ap, _∙_}
 use borrow.Author.Needs.{needs}
-use Rattle.reason.specs.Numbers.{findingOf}
+use Rattle.reason.specs.ReasonNumbers.{findingOf}
 use Rattle.field.specs.ClassTests.{classTest}
 use Rattle.field.proofs.class.class_edit.Statement.{statement}
 use Rattle.field.proofs.class.class_edit.Tie as tie

@@ -7,7 +7,7 @@ use lib.ListN.{take}
 use Rattle.tables.proofs.ids.has.Statement.{statement}
 use Rattle.tables.proofs.ids.has.Tie as tie
 use Rattle.tables.specs.Laws.{among-none}
-use Rattle.tables.specs.Steps.{among-more, take-least}
+use Rattle.tables.specs.TableSteps.{among-more, take-least}
 use Rattle.tables.specs.Tables.{isAmong}
 
 abbrev Inv : tie.InvT-loop

@@ -7,7 +7,7 @@ use lib.ListN.{length, set}
 use Rattle.tables.proofs.ids.zero_first.Statement.{statement}
 use Rattle.tables.proofs.ids.zero_first.Tie as tie
 use Rattle.tables.specs.Laws.{wiped-none}
-use Rattle.tables.specs.Steps.{wiped-more, wiped-least}
+use Rattle.tables.specs.TableSteps.{wiped-more, wiped-least}
 use Rattle.tables.specs.Tables.{wiped}
 
 abbrev Inv : tie.InvT-loop

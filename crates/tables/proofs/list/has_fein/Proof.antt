@@ -11,7 +11,7 @@ use lib.ListN.{length, getD, take}
 use denote.Struct.Laws as LL
 use Rattle.tables.specs.declared.Employer.{Employer}
 use Rattle.tables.specs.Laws.{among-none, feins-take}
-use Rattle.tables.specs.Steps.{among-more, take-least, feins-length, fein-at}
+use Rattle.tables.specs.TableSteps.{among-more, take-least, feins-length, fein-at}
 use Rattle.tables.specs.Tables.{isAmong, noEmployer, feinsOf}
 use Rattle.tables.proofs.Employer as T
 use Rattle.tables.proofs.Employer.Laws as T′

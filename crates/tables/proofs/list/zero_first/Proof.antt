@@ -9,7 +9,7 @@ use lib.ListN.{length}
 use denote.Struct.Laws as LL
 use Rattle.tables.specs.declared.Employer.{Employer}
 use Rattle.tables.specs.Laws.{wiped-none, wiped-length}
-use Rattle.tables.specs.Steps.{wiped-more, wiped-least}
+use Rattle.tables.specs.TableSteps.{wiped-more, wiped-least}
 use Rattle.tables.specs.Tables.{wiped, noEmployer}
 use Rattle.tables.proofs.Employer as T
 use Rattle.tables.proofs.Employer.Laws as T′

@@ -1,6 +1,6 @@
 -- `text::address::extension_edit` meets its contract.
 use borrow.Author.Needs.{needs}
-use Rattle.laws.specs.Text.{bytes}
+use Rattle.laws.specs.Spelling.{bytes}
 use Rattle.text.proofs.address.extension_edit.Statement.{statement}
 use Rattle.text.proofs.address.extension_edit.Tie as tie
 

@@ -1,7 +1,7 @@
 -- `text::address::state_extension` meets its contract.
 use mathlib.Core.Path.{sym, _∙_}
 use borrow.Author.Needs.{needs}
-use Rattle.laws.specs.Text.{bytes}
+use Rattle.laws.specs.Spelling.{bytes}
 use Rattle.text.proofs.address.state_extension.Statement.{statement}
 use Rattle.text.proofs.address.state_extension.Tie as tie
 

@@ -1,0 +1,66 @@
+-- The rules of fields by their numbers, and what stands around a record's fields.
+use Prim.Native.Nat.{ℕ}
+use mathlib.Core.Path.{_≡_, refl}
+use mathlib.Core.List.{List, [], _∷_}
+use lib.ListN.{getD}
+use Rattle.edits.specs.declared.Context.{Context}
+use Rattle.edits.specs.declared.Landmarks.{Landmarks}
+use Rattle.edits.specs.declared.Rule.{Rule}
+use Rattle.edits.specs.declared.Rule.the-variants.{Nothing, YearInTime, QuarterInTime, YearOfA, PeriodOfA, FeinNew, FeinOfE, DateInQuarter, IdentityNew, CountOfS, WagesOfS, FileCountOfS, FileCountOfE, FileWagesOfS, FinalIfCurrent}
+use Rattle.edits.specs.declared.Seen.{Seen}
+
+-- The rule that a list of rules names by its number, from 0 in this order; past the last there is none.
+unfoldable pub ruleList : List Rule
+ruleList =
+    Nothing ∷ YearInTime ∷ QuarterInTime ∷ YearOfA ∷ PeriodOfA ∷ FeinNew ∷ FeinOfE ∷ DateInQuarter ∷ IdentityNew ∷ CountOfS ∷ WagesOfS ∷ FileCountOfS ∷
+    FileCountOfE ∷ FileWagesOfS ∷ FinalIfCurrent ∷ []
+
+unfoldable pub ruleOf : ℕ → Rule
+ruleOf number = getD ruleList number Nothing
+
+abbrev pub ruleNumber : Rule → ℕ
+ruleNumber Nothing = 0
+ruleNumber YearInTime = 1
+ruleNumber QuarterInTime = 2
+ruleNumber YearOfA = 3
+ruleNumber PeriodOfA = 4
+ruleNumber FeinNew = 5
+ruleNumber FeinOfE = 6
+ruleNumber DateInQuarter = 7
+ruleNumber IdentityNew = 8
+ruleNumber CountOfS = 9
+ruleNumber WagesOfS = 10
+ruleNumber FileCountOfS = 11
+ruleNumber FileCountOfE = 12
+ruleNumber FileWagesOfS = 13
+ruleNumber FinalIfCurrent = 14
+
+-- The rule is found again from its number.
+pub rule-again : (which : Rule) → ruleOf (ruleNumber which) ≡ which
+unfolding ruleOf ruleList
+rule-again Nothing = refl
+rule-again YearInTime = refl
+rule-again QuarterInTime = refl
+rule-again YearOfA = refl
+rule-again PeriodOfA = refl
+rule-again FeinNew = refl
+rule-again FeinOfE = refl
+rule-again DateInQuarter = refl
+rule-again IdentityNew = refl
+rule-again CountOfS = refl
+rule-again WagesOfS = refl
+rule-again FileCountOfS = refl
+rule-again FileCountOfE = refl
+rule-again FileWagesOfS = refl
+rule-again FinalIfCurrent = refl
+
+-- Past a list of rows there is no field.
+abbrev pub noRow : List ℕ
+noRow = 0 ∷ 0 ∷ 0 ∷ []
+
+-- What stands around a record's fields: the columns that its rules look at, the entity code, the context and what was seen.
+pub record Around : Type 0 where
+  pub landmarks : Landmarks
+  pub code : List ℕ
+  pub here : Context
+  pub seen : Seen

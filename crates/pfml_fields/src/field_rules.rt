@@ -1,0 +1,18 @@
+// By which rule each field is held against its context.
+ghost use mathlib.Core.Path.{_≡_};
+ghost use Rattle.pfml_fields.specs.FieldRules.{rules};
+
+// A number for each row of the list of fields, in its order.
+const RULES: [u8; 72] = *b"\
+    \x00\x01\x00\x00\x02\x00\x00\x00\x00\x00\x00\x00\x00\x00\x00\x00\x00\
+    \x00\x03\x05\x00\x00\x00\x00\x00\x00\x00\x00\x00\x00\x00\x00\x00\x00\x04\x00\x00\x00\x00\x00\x00\x00\x00\x0e\x07\
+    \x00\x08\x00\x00\x00\x04\x03\x00\x00\x00\x00\x06\x00\
+    \x00\x09\x00\x06\x00\x0a\x00\
+    \x00\x0b\x0c\x00\x00\x0d\x00";
+
+// The rules as a value, which a caller binds once and lends.
+pub fn all_rules() -> [u8; 72]
+    ensures { λ r. ⌜ r ≡ rules ⌝ }
+{
+    RULES
+}
