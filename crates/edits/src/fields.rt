@@ -80,7 +80,15 @@ fn rules_edit(
     let e = own::own_edit(landmarks, code, class, line, first, last);
     match e {
         Edit::Broken(_, _) => e,
-        Edit::Passed => with_context::context_edit(rule, landmarks, around, seen, line, first, last),
+        Edit::Passed => with_context::context_edit(
+            rule,
+            landmarks,
+            around,
+            seen,
+            line,
+            first,
+            last,
+        ),
     }
 }
 
@@ -130,7 +138,17 @@ pub fn first_broken(
             at += 1;
         }
         let rule = rule_of(number_at(rules, k));
-        let e = rules_edit(landmarks, code, around, seen, line, class, rule, first, last);
+        let e = rules_edit(
+            landmarks,
+            code,
+            around,
+            seen,
+            line,
+            class,
+            rule,
+            first,
+            last,
+        );
         if let Edit::Broken(_, _) = e {
             found = e;
             break 'fields;

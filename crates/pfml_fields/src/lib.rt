@@ -1,7 +1,7 @@
 // The fields of the five records, class beside first and last column, and the map that gives the field of every column.
 // A record is named by its place in the order A, E, S, T, F, counted from 0.
-mod map;
 pub mod field_rules;
+mod map;
 
 use field::class;
 ghost use mathlib.Core.Path.{_≡_};
