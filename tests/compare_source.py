@@ -17,6 +17,8 @@ import os
 import re
 import sys
 
+import paper_fields
+
 RECORDS = "AESTF"
 COUNTS = {"passed": 0, "failed": 0}
 
@@ -197,9 +199,12 @@ def in_records(rows):
 
 
 def code_fields(text):
-    """The rows of FIELDS."""
+    """The rows of FIELDS; one that is a constant's name has its columns there."""
+    row = r"\[class::(\w+), (\d+), (\d+)\]"
+    named = {name: row for name, *row in re.findall(r"const (\w+): \[u16; 3\] = " + row, text)}
     body = found(r"const FIELDS[^=]*= \[(.*?)\n\];", text, "FIELDS").group(1)
-    return [(camel(c), int(a), int(b)) for c, a, b in re.findall(r"\[class::(\w+), (\d+), (\d+)\]", body)]
+    rows = [named[name] if name else own for name, *own in re.findall(r"^    (?:(\w+)|%s),$" % row, body, re.M)]
+    return [(camel(c), int(a), int(b)) for c, a, b in rows]
 
 
 def code_map(text):
@@ -214,9 +219,12 @@ def numbers_in(pattern, text, what):
 
 
 def listed_fields(text, record):
-    """The rows of a record's list in specs, each with the name behind it."""
+    """The rows of a record's list in specs, each with the name beside it; one that is a definition's name has its columns there."""
+    row = r"row (\w+) (\d+) (\d+)"
+    named = {name: row for name, *row in re.findall(r"^(\w+) = " + row + "$", text, re.M)}
     body = found(r"\nfieldsOf%s =\n(.*?)\n    \[\]" % record, text, "fieldsOf" + record).group(1)
-    return [(c, int(a), int(b), n) for c, a, b, n in re.findall(r"row (\w+) (\d+) (\d+) ∷ *(?:-- (.*))?", body)]
+    rows = [(named[name] if name else own, beside) for name, *own, beside in re.findall(r"^    (?:(\w+)|%s) ∷ *(?:-- (.*))?" % row, body, re.M)]
+    return [(c, int(a), int(b), beside) for (c, a, b), beside in rows]
 
 
 def is_short_for(name, full):
@@ -277,13 +285,15 @@ def compare_fields(read, source, fields):
     rows = in_records(code_fields(code))
     same("FIELDS has five records", 5, len(rows))
     starts = [sum(len(fields[r]) for r in RECORDS[:k]) for k in range(5)]
-    same("STARTS counts the fields before each record", starts, numbers_in(r"const STARTS[^=]*= \[(.*?)\];", code, "STARTS"))
+    same("FIRST_OF_A to FIRST_OF_F count the fields before each record", starts, [n for r in RECORDS for n in numbers_in(r"const FIRST_OF_%s: usize = (\d+);" % r, code, r)])
+    same("ALL_FIELDS counts all of them", [sum(len(fields[r]) for r in RECORDS)], numbers_in(r"const ALL_FIELDS: usize = (\d+);", code, "ALL_FIELDS"))
     same("starts, in specs, counts them too", starts, numbers_in(r"\nstarts =(.*?)\[\]", specs, "starts"))
     length = numbers_in(r"Each record must be a uniform length of (\d+)", source, "the record's length")
     same("RECORD is the record's length", length, numbers_in(r"const RECORD: u16 = (\d+)", code, "RECORD"))
     for k, record in enumerate(RECORDS):
         wanted = [row[:3] for row in fields[record]]
         same("%s: columns and classes of FIELDS" % record, wanted, rows[k] if k < len(rows) else [])
+        same("%s: columns and classes of tests/paper_fields.py" % record, wanted, [(camel(c), a, b) for c, a, b in paper_fields.ROWS[record]])
         listed = listed_fields(specs, record)
         same("%s: columns and classes of fieldsOf%s" % (record, record), wanted, [row[:3] for row in listed])
         wrong = ["%s for %s" % (row[3], full[3]) for row, full in zip(listed, fields[record]) if not is_short_for(row[3], full[3])]

@@ -5,7 +5,7 @@
     tests/record_cases.py --write         write them
     tests/record_cases.py --seed N FILE   write other cases to FILE, and their verdicts to FILE.told
 
-The columns are those of the product's list of fields, which tests/compare_source.py holds to the source; every rule is written here anew.
+The columns are those of tests/paper_fields.py, which tests/compare_source.py holds to the source; every rule is written here anew.
 The first lines are S records about the ends of what may be filed as an identity number; the others come by chance.
 """
 import itertools
@@ -15,21 +15,11 @@ import re
 import sys
 
 import reference as ref
+from paper_fields import ROWS
 
 ROOT = os.path.dirname(os.path.dirname(os.path.abspath(__file__)))
 LETTERS = "AESTF"
 ROOM = 65536
-
-
-def read_rows():
-    with open(os.path.join(ROOT, "crates", "pfml_fields", "src", "lib.rt"), encoding="utf-8") as f:
-        found = re.findall(r"\[class::(\w+), (\d+), (\d+)\]", f.read())
-    rows = [(name, int(a), int(b)) for name, a, b in found]
-    starts = [i for i, row in enumerate(rows) if row[1] == 1] + [len(rows)]
-    return {letter: rows[starts[i]:starts[i + 1]] for i, letter in enumerate(LETTERS)}
-
-
-ROWS = read_rows()
 CLASS = {
     "BLANK_SPACE": ref.BLANK, "NUMERIC": ref.NUMERIC, "ACCOUNT_NUMBER": ref.ACCOUNT, "REQUIRED_TEXT": ref.REQUIRED, "OPTIONAL_TEXT": ref.OPTIONAL,
     "PERSON_NAME": ref.NAME, "TAX_YEAR": ref.YEAR, "EMPLOYER_FEIN": ref.FEIN, "IDENTITY_NUMBER": ref.IDENTITY, "CEASE_DATE": ref.DATE,

@@ -3,6 +3,7 @@ use crate::Context;
 use crate::Landmarks;
 use crate::Rule;
 use crate::Seen;
+use crate::held_by;
 use crate::own;
 use crate::with_context;
 use chars::columns;
@@ -25,20 +26,20 @@ pub fn rule_of(number: u8) -> Rule
     ensures { λ r. ⌜ r ≡ ruleOf number ⌝ }
 {
     match number {
-        1 => Rule::YearInTime,
-        2 => Rule::QuarterInTime,
-        3 => Rule::YearOfA,
-        4 => Rule::PeriodOfA,
-        5 => Rule::FeinNew,
-        6 => Rule::FeinOfE,
-        7 => Rule::DateInQuarter,
-        8 => Rule::IdentityNew,
-        9 => Rule::CountOfS,
-        10 => Rule::WagesOfS,
-        11 => Rule::FileCountOfS,
-        12 => Rule::FileCountOfE,
-        13 => Rule::FileWagesOfS,
-        14 => Rule::FinalIfCurrent,
+        held_by::YEAR_IN_TIME => Rule::YearInTime,
+        held_by::QUARTER_IN_TIME => Rule::QuarterInTime,
+        held_by::YEAR_OF_A => Rule::YearOfA,
+        held_by::PERIOD_OF_A => Rule::PeriodOfA,
+        held_by::FEIN_NEW => Rule::FeinNew,
+        held_by::FEIN_OF_E => Rule::FeinOfE,
+        held_by::DATE_IN_QUARTER => Rule::DateInQuarter,
+        held_by::IDENTITY_NEW => Rule::IdentityNew,
+        held_by::COUNT_OF_S => Rule::CountOfS,
+        held_by::WAGES_OF_S => Rule::WagesOfS,
+        held_by::FILE_COUNT_OF_S => Rule::FileCountOfS,
+        held_by::FILE_COUNT_OF_E => Rule::FileCountOfE,
+        held_by::FILE_WAGES_OF_S => Rule::FileWagesOfS,
+        held_by::FINAL_IF_CURRENT => Rule::FinalIfCurrent,
         _ => Rule::Nothing,
     }
 }

@@ -1,6 +1,7 @@
 // The edits of the fields of one record, given what they depend on besides the record's own bytes.
 pub mod fields;
 pub mod format;
+pub mod held_by;
 pub mod own;
 pub mod with_context;
 

@@ -23,21 +23,31 @@ lastIn field = getD field 2 0
 abbrev pub widthIn : List ℕ → ℕ
 widthIn field = lastIn field - (firstIn field - 1)
 
--- The five tables row by row: each row has the table's location, and behind it stands the table's name of the field.
+-- The five tables row by row: each row has the table's location, and beside it stands the table's name of the field. A field that rules, meaning, writers
+-- or the fast path name has its row above the table.
 
 -- Transmitter (A) Record, "17 fields"
+abbrev pub yearOfA : List ℕ
+yearOfA = row TaxYear 2 5
+
+abbrev pub periodOfA : List ℕ
+periodOfA = row Period 19 20
+
+abbrev pub stateOfA : List ℕ
+stateOfA = row StateCode 139 140
+
 unfoldable pub fieldsOfA : List (List ℕ)
 fieldsOfA =
     row RecordLetter 1 1 ∷  -- Record Identifier
-    row TaxYear 2 5 ∷  -- Tax Year
+    yearOfA ∷  -- Tax Year
     row EmployerFein 6 14 ∷  -- Transmitter's Federal Employer ID #
     row EntityCode 15 18 ∷  -- Taxing Entity Code
-    row Period 19 20 ∷  -- Period Covered
+    periodOfA ∷  -- Period Covered
     row BlankSpace 21 23 ∷  -- Blank Space
     row RequiredText 24 73 ∷  -- Transmitter Name
     row RequiredText 74 113 ∷  -- Transmitter Street Address
     row RequiredText 114 138 ∷  -- Transmitter City
-    row StateCode 139 140 ∷  -- Transmitter State
+    stateOfA ∷  -- Transmitter State
     row BlankSpace 141 153 ∷  -- Blank Space
     row ZipCode 154 158 ∷  -- Transmitter ZIP Code
     row ZipExtension 159 163 ∷  -- Transmitter ZIP Code Extension
@@ -48,27 +58,54 @@ fieldsOfA =
     []
 
 -- Employer (E) Record, "28"
+abbrev pub yearOfE : List ℕ
+yearOfE = row TaxYear 2 5
+
+abbrev pub feinOfE : List ℕ
+feinOfE = row EmployerFein 6 14
+
+abbrev pub stateOfE : List ℕ
+stateOfE = row StateCode 139 140
+
+abbrev pub accountOfE : List ℕ
+accountOfE = row AccountNumber 173 182
+
+abbrev pub amendedOfE : List ℕ
+amendedOfE = row Flag 187 187
+
+abbrev pub periodOfE : List ℕ
+periodOfE = row Period 188 189
+
+abbrev pub noWagesOfE : List ℕ
+noWagesOfE = row Flag 190 190
+
+abbrev pub finalOfE : List ℕ
+finalOfE = row Flag 282 282
+
+abbrev pub ceaseDateOfE : List ℕ
+ceaseDateOfE = row CeaseDate 283 290
+
 unfoldable pub fieldsOfE : List (List ℕ)
 fieldsOfE =
     row RecordLetter 1 1 ∷  -- Record Identifier
-    row TaxYear 2 5 ∷  -- Tax Year
-    row EmployerFein 6 14 ∷  -- Employer Federal Employer ID Number
+    yearOfE ∷  -- Tax Year
+    feinOfE ∷  -- Employer Federal Employer ID Number
     row BlankSpace 15 23 ∷  -- Blank Space
     row RequiredText 24 73 ∷  -- Employer Name
     row RequiredText 74 113 ∷  -- Employer Street Address
     row RequiredText 114 138 ∷  -- Employer City
-    row StateCode 139 140 ∷  -- Employer State
+    stateOfE ∷  -- Employer State
     row BlankSpace 141 148 ∷  -- Blank Space
     row ZipExtension 149 153 ∷  -- Zip Code Extension
     row ZipCode 154 158 ∷  -- Zip Code
     row BlankSpace 159 166 ∷  -- Blank Space
     row EntityCode 167 170 ∷  -- Taxing Entity Code
     row BlankSpace 171 172 ∷  -- Blank Space
-    row AccountNumber 173 182 ∷  -- MPL Account Number
+    accountOfE ∷  -- MPL Account Number
     row BlankSpace 183 186 ∷  -- Blank Space
-    row Flag 187 187 ∷  -- Amended Return
-    row Period 188 189 ∷  -- Period Covered
-    row Flag 190 190 ∷  -- No Wages
+    amendedOfE ∷  -- Amended Return
+    periodOfE ∷  -- Period Covered
+    noWagesOfE ∷  -- No Wages
     row ThirdQuarterFlag 191 191 ∷  -- Did you have at least 15 covered employees ..
     row BlankSpace 192 200 ∷  -- Blank Space
     row RequiredText 201 230 ∷  -- Employer Contact
@@ -76,50 +113,119 @@ fieldsOfE =
     row Numeric 261 270 ∷  -- Employer Phone: type N decides, not "Required text"
     row OptionalText 271 274 ∷  -- Employer Phone Ext.
     row BlankSpace 275 281 ∷  -- Blank Space
-    row Flag 282 282 ∷  -- Is this your final return?
-    row CeaseDate 283 290 ∷  -- Cease Date
+    finalOfE ∷  -- Is this your final return?
+    ceaseDateOfE ∷  -- Cease Date
     []
 
 -- Employee (S) Record, "12": 13 rows, since "S 46-51 is read as two, 46-47 and 48-51"
+abbrev pub letterOfS : List ℕ
+letterOfS = row RecordLetter 1 1
+
+abbrev pub identityOfS : List ℕ
+identityOfS = row IdentityNumber 2 10
+
+abbrev pub lastNameOfS : List ℕ
+lastNameOfS = row PersonName 11 30
+
+abbrev pub firstNameOfS : List ℕ
+firstNameOfS = row PersonName 31 42
+
+abbrev pub periodOfS : List ℕ
+periodOfS = row Period 46 47
+
+abbrev pub yearOfS : List ℕ
+yearOfS = row TaxYear 48 51
+
+abbrev pub wagesOfS : List ℕ
+wagesOfS = row Numeric 64 77
+
+abbrev pub codeOfS : List ℕ
+codeOfS = row EntityCode 143 146
+
+abbrev pub feinOfS : List ℕ
+feinOfS = row Numeric 147 155
+
 unfoldable pub fieldsOfS : List (List ℕ)
 fieldsOfS =
-    row RecordLetter 1 1 ∷  -- Record Identifier
-    row IdentityNumber 2 10 ∷  -- Social Security Number / ITIN
-    row PersonName 11 30 ∷  -- Employee/Individual Last Name
-    row PersonName 31 42 ∷  -- Employee/Individual First Name
+    letterOfS ∷  -- Record Identifier
+    identityOfS ∷  -- Social Security Number / ITIN
+    lastNameOfS ∷  -- Employee/Individual Last Name
+    firstNameOfS ∷  -- Employee/Individual First Name
     row BlankSpace 43 45 ∷  -- Blank Space
-    row Period 46 47 ∷  -- Reporting Quarter and Year: the quarter
-    row TaxYear 48 51 ∷  -- Reporting Quarter and Year: the year
+    periodOfS ∷  -- Reporting Quarter and Year: the quarter
+    yearOfS ∷  -- Reporting Quarter and Year: the year
     row BlankSpace 52 63 ∷  -- Blank Space
-    row Numeric 64 77 ∷  -- Total Wages Paid This Quarter
+    wagesOfS ∷  -- Total Wages Paid This Quarter
     row BlankSpace 78 142 ∷  -- Blank Space
-    row EntityCode 143 146 ∷  -- Taxing Entity Code
-    row Numeric 147 155 ∷  -- Employer's FEIN
+    codeOfS ∷  -- Taxing Entity Code
+    feinOfS ∷  -- Employer's FEIN
     row BlankSpace 156 290 ∷  -- Blank Space
     []
 
 -- Total (T) Record, "7"
+abbrev pub letterOfT : List ℕ
+letterOfT = row RecordLetter 1 1
+
+abbrev pub countOfT : List ℕ
+countOfT = row Numeric 2 8
+
+abbrev pub codeOfT : List ℕ
+codeOfT = row EntityCode 9 12
+
+abbrev pub feinOfT : List ℕ
+feinOfT = row Numeric 13 21
+
+abbrev pub blankOfT : List ℕ
+blankOfT = row BlankSpace 22 26
+
+abbrev pub wagesOfT : List ℕ
+wagesOfT = row Numeric 27 40
+
+abbrev pub restOfT : List ℕ
+restOfT = row BlankSpace 41 290
+
 unfoldable pub fieldsOfT : List (List ℕ)
 fieldsOfT =
-    row RecordLetter 1 1 ∷  -- Record Identifier
-    row Numeric 2 8 ∷  -- Total Number of S Records
-    row EntityCode 9 12 ∷  -- Taxing Entity Code
-    row Numeric 13 21 ∷  -- Employer's FEIN
-    row BlankSpace 22 26 ∷  -- Blank Space
-    row Numeric 27 40 ∷  -- Total Wages Paid This Quarter
-    row BlankSpace 41 290 ∷  -- Blank Space
+    letterOfT ∷  -- Record Identifier
+    countOfT ∷  -- Total Number of S Records
+    codeOfT ∷  -- Taxing Entity Code
+    feinOfT ∷  -- Employer's FEIN
+    blankOfT ∷  -- Blank Space
+    wagesOfT ∷  -- Total Wages Paid This Quarter
+    restOfT ∷  -- Blank Space
     []
 
 -- Final (F) Record, "7"
+abbrev pub letterOfF : List ℕ
+letterOfF = row RecordLetter 1 1
+
+abbrev pub countOfF : List ℕ
+countOfF = row Numeric 2 11
+
+abbrev pub employersOfF : List ℕ
+employersOfF = row Numeric 12 21
+
+abbrev pub codeOfF : List ℕ
+codeOfF = row EntityCode 22 25
+
+abbrev pub blankOfF : List ℕ
+blankOfF = row BlankSpace 26 40
+
+abbrev pub wagesOfF : List ℕ
+wagesOfF = row Numeric 41 55
+
+abbrev pub restOfF : List ℕ
+restOfF = row BlankSpace 56 290
+
 unfoldable pub fieldsOfF : List (List ℕ)
 fieldsOfF =
-    row RecordLetter 1 1 ∷  -- Record Identifier
-    row Numeric 2 11 ∷  -- Total Number of S Records in File
-    row Numeric 12 21 ∷  -- Total Number of E Records in File
-    row EntityCode 22 25 ∷  -- Taxing Entity Code
-    row BlankSpace 26 40 ∷  -- Blank Space
-    row Numeric 41 55 ∷  -- Total Wages in File
-    row BlankSpace 56 290 ∷  -- Blank Space
+    letterOfF ∷  -- Record Identifier
+    countOfF ∷  -- Total Number of S Records in File
+    employersOfF ∷  -- Total Number of E Records in File
+    codeOfF ∷  -- Taxing Entity Code
+    blankOfF ∷  -- Blank Space
+    wagesOfF ∷  -- Total Wages in File
+    restOfF ∷  -- Blank Space
     []
 
 -- The records, counted from 0 in the order A, E, S, T, F.
