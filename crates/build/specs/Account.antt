@@ -20,7 +20,7 @@ use Rattle.text.specs.Put.{blanks}
 use Rattle.text.specs.Text.{allBlank}
 use Rattle.field.specs.Classes.{class-again}
 use Rattle.field.specs.declared.class.Class.the-variants.{AccountNumber}
-use Rattle.pfml_fields.specs.Fields.{row, firstIn, lastIn, noRow}
+use Rattle.edits.specs.FieldRow.{row, firstIn, lastIn, noRow}
 use Rattle.pfml_fields.specs.Rows.{fields-of-E, account-number-of-E}
 use Rattle.pfml.specs.Edits.{rowsFor}
 use Rattle.pfml.specs.Kinds.{kindOf, isKnown}

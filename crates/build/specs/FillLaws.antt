@@ -19,7 +19,7 @@ use Rattle.laws.specs.Spelling.{bytes}
 use Rattle.field.specs.Classes.{classOf}
 use Rattle.field.specs.ClassTests.{classTest}
 use Rattle.field.specs.declared.class.Class.{Class}
-use Rattle.pfml_fields.specs.Fields.{classIn, firstIn, lastIn, noRow}
+use Rattle.edits.specs.FieldRow.{classIn, firstIn, lastIn, noRow}
 use Rattle.edits.specs.Edit.{firstBroken}
 use Rattle.edits.specs.EditLaws.{first-none, first-cons, first-append}
 use Rattle.edits.specs.Tests.{ownRest}

@@ -13,7 +13,7 @@ use Rattle.chars.specs.CharacterLaws.{capitals-already}
 use Rattle.chars.specs.ColumnLaws.{column-says, blank-column}
 use Rattle.field.specs.Classes.{class-again}
 use Rattle.field.specs.declared.class.Class.the-variants.{RecordLetter}
-use Rattle.pfml_fields.specs.Fields.{noRow}
+use Rattle.edits.specs.FieldRow.{noRow}
 use Rattle.pfml_fields.specs.Rows.{LetterFirst, letters-first}
 use Rattle.edits.specs.Edit.{firstBroken}
 use Rattle.edits.specs.EditLaws.{first-cons, first-append}

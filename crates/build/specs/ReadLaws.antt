@@ -12,7 +12,7 @@ use Rattle.chars.specs.Columns.{widthOf}
 use Rattle.field.specs.Classes.{classOf}
 use Rattle.field.specs.declared.class.Class.{Class}
 use Rattle.field.specs.declared.class.Class.the-variants.{Ignored, RecordLetter, BlankSpace, Numeric, AccountNumber, Flag, ThirdQuarterFlag, Period, RequiredText, OptionalText, PersonName, EntityCode, StateCode, ZipCode, ZipExtension, TaxYear, EmployerFein, IdentityNumber, CeaseDate}
-use Rattle.pfml_fields.specs.Fields.{classIn, firstIn, lastIn}
+use Rattle.edits.specs.FieldRow.{classIn, firstIn, lastIn}
 use Rattle.pfml_fields.specs.Fit.{isNumber}
 use Rattle.edits.specs.FieldParts.{Readable}
 use Rattle.build.specs.Building.{fitsIn}

@@ -8,7 +8,8 @@ use native.Mathlib.Omega.{arith}
 use lib.ListN.{length, getD}
 use Rattle.laws.specs.Lists.{any-default}
 use Rattle.field.specs.Classes.{classOf}
-use Rattle.pfml_fields.specs.Fields.{classIn, firstIn, lastIn, rowsOf, fields, noRow, firstField}
+use Rattle.edits.specs.FieldRow.{classIn, firstIn, lastIn, noRow}
+use Rattle.pfml_fields.specs.Fields.{rowsOf, fields, firstField}
 use Rattle.pfml_fields.specs.Fit.{isNumber, number-width}
 use Rattle.pfml_fields.specs.Rows.{all-fields, in-list, fields-counted, field-in-all, rows-in-order, none-behind}
 use Rattle.pfml_fields.specs.Tiling.{tiles, rows-tile}

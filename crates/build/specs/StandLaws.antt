@@ -24,7 +24,7 @@ use Rattle.text.specs.PutLaws.{put-text-elsewhere, put-text-at}
 use Rattle.text.specs.Text.{allBlank}
 use Rattle.text.specs.TextLaws.{all-blank-says}
 use Rattle.field.specs.Classes.{classOf}
-use Rattle.pfml_fields.specs.Fields.{classIn, firstIn, lastIn, noRow}
+use Rattle.edits.specs.FieldRow.{classIn, firstIn, lastIn, noRow}
 use Rattle.pfml_fields.specs.Tiling.{tiles, tiles-first, row-within}
 use Rattle.pfml.specs.Edits.{rowsFor}
 use Rattle.pfml.specs.Kinds.{kindOf, isKnown}

@@ -15,7 +15,7 @@ use Rattle.chars.specs.ColumnLaws.{unless-fine, unless-labelled, permitted-labe
 use Rattle.chars.specs.declared.columns.Allowed.the-variants.{Permitted}
 use Rattle.text.specs.Put.{blanks}
 use Rattle.number.specs.Numbers.{numberIn}
-use Rattle.pfml_fields.specs.Fields.{firstIn, lastIn, noRow}
+use Rattle.edits.specs.FieldRow.{firstIn, lastIn, noRow}
 use Rattle.pfml_fields.specs.Tiling.{tiles, tiles-none, tiles-first}
 use Rattle.edits.specs.Edit.{Edit, firstBroken}
 use Rattle.edits.specs.EditLaws.{AllFine, fine-all, all-fine, all-append, FirstIn, first-of-list}

@@ -13,7 +13,7 @@ use Rattle.text.specs.Text.{allBlank}
 use Rattle.field.specs.Classes.{classOf}
 use Rattle.field.specs.declared.class.Class.{Class}
 use Rattle.field.specs.declared.class.Class.the-variants.{Ignored, RecordLetter, BlankSpace, Numeric, AccountNumber, Flag, ThirdQuarterFlag, Period, RequiredText, OptionalText, PersonName, EntityCode, StateCode, ZipCode, ZipExtension, TaxYear, EmployerFein, IdentityNumber, CeaseDate}
-use Rattle.pfml_fields.specs.Fields.{classIn, firstIn, lastIn}
+use Rattle.edits.specs.FieldRow.{classIn, firstIn, lastIn}
 use Rattle.pfml.specs.Edits.{rowsFor}
 use Rattle.pfml.specs.Kinds.{kindOf}
 use Rattle.build.specs.declared.form.Form.{Form}

@@ -5,7 +5,7 @@ use number::Number;
 ghost use mathlib.Core.Path.{_≡_};
 ghost use lib.ListN.{length, getD};
 ghost use Rattle.chars.specs.Characters.{capitals};
-ghost use Rattle.pfml_fields.specs.Fields.{firstIn, lastIn, noRow};
+ghost use Rattle.edits.specs.FieldRow.{firstIn, lastIn, noRow};
 ghost use Rattle.number.specs.Numbers.{numberIn, readingOf};
 ghost use Rattle.pfml.specs.Edits.{rowsFor};
 ghost use Rattle.pfml.specs.Kinds.{kindOf};

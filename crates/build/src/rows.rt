@@ -5,6 +5,7 @@ use chars::columns;
 use chars::columns::Allowed;
 use edits::Landmarks;
 use edits::own;
+use edits::rows;
 use field::class;
 use field::class::Class;
 use pfml::kind;
@@ -21,7 +22,7 @@ ghost use Rattle.reason.specs.ReasonNumbers.{findingOf};
 ghost use Rattle.chars.specs.Characters.{capitals};
 ghost use Rattle.field.specs.Classes.{classOf};
 ghost use Rattle.field.specs.ClassTests.{classTest};
-ghost use Rattle.pfml_fields.specs.Fields.{classIn, firstIn, lastIn, noRow};
+ghost use Rattle.edits.specs.FieldRow.{classIn, firstIn, lastIn, noRow};
 ghost use Rattle.edits.specs.Edit.{firstBroken};
 ghost use Rattle.edits.specs.Tests.{ownRest};
 ghost use Rattle.edits.specs.FieldParts.{Wide};
@@ -52,7 +53,8 @@ pub fn row_of(letter: u8, k: usize) -> [u16; 3]
     if to - from <= k {
         return [0, 0, 0];
     }
-    pfml_fields::row_at(from + k)
+    let all = pfml_fields::all_rows();
+    rows::row_at(&all, from + k)
 }
 
 // An entry of the values, 0 past their end.

@@ -11,7 +11,8 @@ use Rattle.laws.specs.First.{first-same, first-shift}
 use Rattle.field.specs.Classes.{classOf}
 use Rattle.edits.specs.Edit.{Edit, firstBroken}
 use Rattle.edits.specs.EditLaws.{first-append, AllFine, all-fine, all-append}
-use Rattle.edits.specs.RuleNumbers.{Around, ruleOf, noRow}
+use Rattle.edits.specs.FieldRow.{noRow}
+use Rattle.edits.specs.RuleNumbers.{Around, ruleOf}
 use Rattle.edits.specs.Tests.{fieldAt, fieldsTest}
 use Rattle.edits.specs.FieldEdits.{editsOf, fieldEdits, contextOf, contextEdits}
 use Rattle.edits.specs.Own.{own}

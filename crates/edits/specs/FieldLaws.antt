@@ -7,7 +7,8 @@ use Rattle.laws.specs.Finding.{Finding, fine, broken}
 use Rattle.field.specs.Classes.{classOf}
 use Rattle.field.specs.ClassTests.{classTest}
 use Rattle.field.specs.declared.class.Class.{Class}
-use Rattle.edits.specs.RuleNumbers.{ruleOf, noRow, Around}
+use Rattle.edits.specs.FieldRow.{noRow}
+use Rattle.edits.specs.RuleNumbers.{ruleOf, Around}
 use Rattle.edits.specs.Tests.{rulesTest, fieldTest, fieldAt}
 use Rattle.edits.specs.declared.Rule.{Rule}
 

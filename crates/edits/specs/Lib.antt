@@ -6,6 +6,7 @@ pub mod Labels
 pub mod EditLaws
 pub mod Own
 pub mod WithContext
+pub mod FieldRow
 pub mod RuleNumbers
 pub mod Tests
 pub mod FieldLaws

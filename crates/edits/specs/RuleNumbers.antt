@@ -54,10 +54,6 @@ rule-again FileCountOfE = refl
 rule-again FileWagesOfS = refl
 rule-again FinalIfCurrent = refl
 
--- Past a list of rows there is no field.
-abbrev pub noRow : List ℕ
-noRow = 0 ∷ 0 ∷ 0 ∷ []
-
 -- What stands around a record's fields: the columns that its rules look at, the entity code, the context and what was seen.
 pub record Around : Type 0 where
   pub landmarks : Landmarks

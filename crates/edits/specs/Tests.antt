@@ -17,7 +17,8 @@ use Rattle.field.specs.ClassTests.{classTest}
 use Rattle.field.specs.declared.class.Class.{Class}
 use Rattle.field.specs.declared.class.Class.the-variants.{Ignored, RecordLetter, BlankSpace, Numeric, AccountNumber, Flag, ThirdQuarterFlag, Period, RequiredText, OptionalText, PersonName, EntityCode, StateCode, ZipCode, ZipExtension, TaxYear, EmployerFein, IdentityNumber, CeaseDate}
 use Rattle.edits.specs.Edit.{firstBroken}
-use Rattle.edits.specs.RuleNumbers.{Around, ruleOf, noRow}
+use Rattle.edits.specs.FieldRow.{noRow}
+use Rattle.edits.specs.RuleNumbers.{Around, ruleOf}
 use Rattle.edits.specs.Own.{isFinal}
 use Rattle.edits.specs.WithContext.{withContext}
 use Rattle.edits.specs.declared.Landmarks.{Landmarks}

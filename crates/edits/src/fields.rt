@@ -5,6 +5,7 @@ use crate::Rule;
 use crate::Seen;
 use crate::held_by;
 use crate::own;
+use crate::rows;
 use crate::with_context;
 use chars::columns;
 use chars::columns::Allowed;
@@ -18,7 +19,8 @@ ghost use Rattle.laws.specs.Finding.{firstOf};
 ghost use Rattle.reason.specs.ReasonNumbers.{findingOf};
 ghost use Rattle.chars.specs.Characters.{capitals};
 ghost use Rattle.chars.specs.Columns.{allowedTest, everyColumn};
-ghost use Rattle.edits.specs.RuleNumbers.{ruleOf, noRow};
+ghost use Rattle.edits.specs.FieldRow.{noRow};
+ghost use Rattle.edits.specs.RuleNumbers.{ruleOf};
 ghost use Rattle.edits.specs.Tests.{rulesTest, fieldsTest};
 
 // The rule of a number.
@@ -52,16 +54,6 @@ fn number_at(numbers: &[u8], k: usize) -> u8
         return numbers[k];
     }
     0
-}
-
-// A row of a list, a field of no columns past its end.
-fn row_at(rows: &[[u16; 3]], k: usize) -> [u16; 3]
-    ensures { λ r. ⌜ r ≡ getD (now (rows .entry)) k noRow ⌝ }
-{
-    if k < rows.len() {
-        return rows[k];
-    }
-    [0, 0, 0]
 }
 
 // The rules of a field behind its class test: its own, then those of the context.
@@ -119,7 +111,7 @@ pub fn first_broken(
     let mut found = Edit::Passed;
     let mut k = 0;
     'fields: while k < rows.len() {
-        let row = row_at(rows, k);
+        let row = rows::row_at(rows, k);
         let class = class::class_of(row[0]);
         let first = row[1];
         let last = row[2];

@@ -3,6 +3,7 @@ pub mod fields;
 pub mod format;
 pub mod held_by;
 pub mod own;
+pub mod rows;
 pub mod with_context;
 
 use calendar::Quarter;

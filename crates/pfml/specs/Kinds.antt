@@ -6,6 +6,8 @@ use lib.Dec.{eqb}
 use lib.ListN.{getD}
 use Rattle.laws.specs.Choice.{if_then_else_}
 use Rattle.edits.specs.declared.Landmarks.{Landmarks}
+use Rattle.edits.specs.FieldRow.{firstIn, lastIn}
+use Rattle.pfml_fields.specs.Fields.{yearOfA, periodOfA, stateOfA, yearOfE, periodOfE, stateOfE, finalOfE}
 use Rattle.pfml.specs.declared.kind.Kind.{Kind}
 use Rattle.pfml.specs.declared.kind.Kind.the-variants.{Transmitter, Employer, Employee, Total, Final, Unknown}
 
@@ -32,15 +34,35 @@ placeInOrder Total = 3
 placeInOrder Final = 4
 placeInOrder Unknown = 5
 
+-- A record that has no such field.
+abbrev pub noLandmarks : Landmarks
+noLandmarks = record { «year_first» = 0; «year_last» = 0; «period_first» = 0; «period_last» = 0; state = 0; «final_flag» = 0 }
+
 -- The columns that the rules of other fields look at: year and period for the period test, the state for ZIP and extension, E's period
 -- for 191, E's 282 for the cease date.
 abbrev pub landmarksOf : Kind → Landmarks
-landmarksOf Transmitter = record { «year_first» = 2; «year_last» = 5; «period_first» = 19; «period_last» = 20; state = 139; «final_flag» = 0 }
-landmarksOf Employer = record { «year_first» = 2; «year_last» = 5; «period_first» = 188; «period_last» = 189; state = 139; «final_flag» = 282 }
-landmarksOf Employee = record { «year_first» = 0; «year_last» = 0; «period_first» = 0; «period_last» = 0; state = 0; «final_flag» = 0 }
-landmarksOf Total = record { «year_first» = 0; «year_last» = 0; «period_first» = 0; «period_last» = 0; state = 0; «final_flag» = 0 }
-landmarksOf Final = record { «year_first» = 0; «year_last» = 0; «period_first» = 0; «period_last» = 0; state = 0; «final_flag» = 0 }
-landmarksOf Unknown = record { «year_first» = 0; «year_last» = 0; «period_first» = 0; «period_last» = 0; state = 0; «final_flag» = 0 }
+landmarksOf Transmitter =
+    record {
+      «year_first» = firstIn yearOfA;
+      «year_last» = lastIn yearOfA;
+      «period_first» = firstIn periodOfA;
+      «period_last» = lastIn periodOfA;
+      state = firstIn stateOfA;
+      «final_flag» = 0;
+    }
+landmarksOf Employer =
+    record {
+      «year_first» = firstIn yearOfE;
+      «year_last» = lastIn yearOfE;
+      «period_first» = firstIn periodOfE;
+      «period_last» = lastIn periodOfE;
+      state = firstIn stateOfE;
+      «final_flag» = firstIn finalOfE;
+    }
+landmarksOf Employee = noLandmarks
+landmarksOf Total = noLandmarks
+landmarksOf Final = noLandmarks
+landmarksOf Unknown = noLandmarks
 
 abbrev pub isKnown : Kind → Bool
 isKnown Unknown = false

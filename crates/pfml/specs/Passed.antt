@@ -19,7 +19,8 @@ use Rattle.rules.specs.RuleLaws.{period-fine}
 use Rattle.field.specs.Classes.{class-again}
 use Rattle.field.specs.declared.class.Class.{Class}
 use Rattle.field.specs.declared.class.Class.the-variants.{Period, TaxYear, EmployerFein, IdentityNumber}
-use Rattle.pfml_fields.specs.Fields.{row, noRow, fieldsOfA, fieldsOfE, fieldsOfS}
+use Rattle.edits.specs.FieldRow.{row, noRow}
+use Rattle.pfml_fields.specs.Fields.{fieldsOfA, fieldsOfE, fieldsOfS}
 use Rattle.pfml_fields.specs.Rows.{year-of-A, period-of-A, fein-of-E, identity-of-S, fields-of-A, fields-of-E, fields-of-S}
 use Rattle.pfml_fields.specs.FieldRules.{rulesOfA, rulesOfE, rulesOfS}
 use Rattle.edits.specs.EditLaws.{AllFine, all-fine, all-append, not-broken}

@@ -3,28 +3,30 @@ use Prim.Native.Nat.{ℕ}
 use mathlib.Core.Bool.{Bool}
 use mathlib.Core.List.{List}
 use lib.Dec.{eqb}
-use Rattle.number.specs.Numbers.{valueIn}
+use Rattle.edits.specs.FieldRow.{valueAt}
+use Rattle.pfml_fields.specs.Fields.{yearOfA, periodOfA, feinOfE, amendedOfE, noWagesOfE, finalOfE, ceaseDateOfE, identityOfS, wagesOfS}
 use Rattle.shape.specs.declared.Said.{Said}
 use Rattle.shape.specs.declared.Said.the-variants.{OfA, OfE, OfS, OfT, OfF, OfNone}
 use Rattle.pfml.specs.Kinds.{kindOn}
 use Rattle.pfml.specs.declared.kind.Kind.{Kind}
 use Rattle.pfml.specs.declared.kind.Kind.the-variants.{Transmitter, Employer, Employee, Total, Final, Unknown}
 
-abbrev pub isSet : List ℕ → ℕ → Bool
-isSet text column = eqb (valueIn text column column) 1
+-- Whether a flag is 1.
+abbrev pub isSet : List ℕ → List ℕ → Bool
+isSet text field = eqb (valueAt text field) 1
 
 -- A its year and period; E its FEIN, the flags 190, 187 and 282 and the cease date; S its identity number and its wages. There is no second amount.
 abbrev pub saidBy : Kind → List ℕ → Said
-saidBy Transmitter text = OfA (record { year = valueIn text 2 5; month = valueIn text 19 20 })
+saidBy Transmitter text = OfA (record { year = valueAt text yearOfA; month = valueAt text periodOfA })
 saidBy Employer text =
     OfE (record {
-      fein = valueIn text 6 14;
-      follow = isSet text 190;
-      amended = isSet text 187;
-      closing = isSet text 282;
-      date = valueIn text 283 290;
+      fein = valueAt text feinOfE;
+      follow = isSet text noWagesOfE;
+      amended = isSet text amendedOfE;
+      closing = isSet text finalOfE;
+      date = valueAt text ceaseDateOfE;
     })
-saidBy Employee text = OfS (record { id = valueIn text 2 10; wages = valueIn text 64 77; second = 0 })
+saidBy Employee text = OfS (record { id = valueAt text identityOfS; wages = valueAt text wagesOfS; second = 0 })
 saidBy Total text = OfT
 saidBy Final text = OfF
 saidBy Unknown text = OfNone

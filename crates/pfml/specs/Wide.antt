@@ -13,10 +13,11 @@ use Rattle.laws.specs.Lists.{any-default}
 use Rattle.field.specs.Classes.{classOf}
 use Rattle.field.specs.declared.class.Class.{Class}
 use Rattle.field.specs.declared.class.Class.the-variants.{Ignored, RecordLetter, BlankSpace, Numeric, AccountNumber, Flag, ThirdQuarterFlag, Period, RequiredText, OptionalText, PersonName, EntityCode, StateCode, ZipCode, ZipExtension, TaxYear, EmployerFein, IdentityNumber, CeaseDate}
-use Rattle.pfml_fields.specs.Fields.{classIn, firstIn, lastIn, fields}
+use Rattle.edits.specs.FieldRow.{classIn, firstIn, lastIn}
+use Rattle.pfml_fields.specs.Fields.{fields}
 use Rattle.pfml_fields.specs.Fit.{widthTest, class-widths}
 use Rattle.pfml_fields.specs.Rows.{all-fields, part-of-A, part-of-E, part-of-S, part-of-T, part-of-F}
-use Rattle.edits.specs.RuleNumbers.{noRow}
+use Rattle.edits.specs.FieldRow.{noRow}
 use Rattle.edits.specs.FieldEditLaws.{AllWide}
 use Rattle.edits.specs.FieldParts.{Wide, Readable}
 use Rattle.pfml.specs.Edits.{rowsFor}

@@ -1,7 +1,14 @@
 // The five records, by their letters.
 use edits::Landmarks;
+use pfml_fields::FINAL_OF_E;
+use pfml_fields::PERIOD_OF_A;
+use pfml_fields::PERIOD_OF_E;
+use pfml_fields::STATE_OF_A;
+use pfml_fields::STATE_OF_E;
+use pfml_fields::YEAR_OF_A;
+use pfml_fields::YEAR_OF_E;
 ghost use mathlib.Core.Path.{_≡_};
-ghost use Rattle.pfml.specs.Kinds.{kindOf, placeInOrder, landmarksOf};
+ghost use Rattle.pfml.specs.Kinds.{kindOf, placeInOrder, noLandmarks, landmarksOf};
 
 pub enum Kind {
     // A
@@ -47,7 +54,7 @@ pub fn order_of(kind: Kind) -> usize
 }
 
 fn no_landmarks() -> Landmarks
-    ensures { λ r. ⌜ r ≡ landmarksOf Kind.Unknown ⌝ }
+    ensures { λ r. ⌜ r ≡ noLandmarks ⌝ }
 {
     Landmarks {
         year_first: 0,
@@ -65,20 +72,20 @@ pub fn landmarks_of(kind: Kind) -> Landmarks
 {
     match kind {
         Kind::Transmitter => Landmarks {
-            year_first: 2,
-            year_last: 5,
-            period_first: 19,
-            period_last: 20,
-            state: 139,
+            year_first: YEAR_OF_A[1],
+            year_last: YEAR_OF_A[2],
+            period_first: PERIOD_OF_A[1],
+            period_last: PERIOD_OF_A[2],
+            state: STATE_OF_A[1],
             final_flag: 0,
         },
         Kind::Employer => Landmarks {
-            year_first: 2,
-            year_last: 5,
-            period_first: 188,
-            period_last: 189,
-            state: 139,
-            final_flag: 282,
+            year_first: YEAR_OF_E[1],
+            year_last: YEAR_OF_E[2],
+            period_first: PERIOD_OF_E[1],
+            period_last: PERIOD_OF_E[2],
+            state: STATE_OF_E[1],
+            final_flag: FINAL_OF_E[1],
         },
         Kind::Employee => no_landmarks(),
         Kind::Total => no_landmarks(),

@@ -11,6 +11,12 @@ use edits::Landmarks;
 use edits::Seen;
 use edits::fields;
 use kind::Kind;
+use pfml_fields::ALL_FIELDS;
+use pfml_fields::FIRST_OF_A;
+use pfml_fields::FIRST_OF_E;
+use pfml_fields::FIRST_OF_F;
+use pfml_fields::FIRST_OF_S;
+use pfml_fields::FIRST_OF_T;
 use pfml_fields::field_rules;
 use reason::Edit;
 use reason::Reason;
@@ -66,11 +72,11 @@ fn fields_edit(kind: Kind, here: Context, seen: Seen, line: &[u8]) -> Edit
 {
     let landmarks = kind::landmarks_of(kind);
     match kind {
-        Kind::Transmitter => fields_between(landmarks, here, seen, line, 0, 17),
-        Kind::Employer => fields_between(landmarks, here, seen, line, 17, 45),
-        Kind::Employee => fields_between(landmarks, here, seen, line, 45, 58),
-        Kind::Total => fields_between(landmarks, here, seen, line, 58, 65),
-        Kind::Final => fields_between(landmarks, here, seen, line, 65, 72),
+        Kind::Transmitter => fields_between(landmarks, here, seen, line, FIRST_OF_A, FIRST_OF_E),
+        Kind::Employer => fields_between(landmarks, here, seen, line, FIRST_OF_E, FIRST_OF_S),
+        Kind::Employee => fields_between(landmarks, here, seen, line, FIRST_OF_S, FIRST_OF_T),
+        Kind::Total => fields_between(landmarks, here, seen, line, FIRST_OF_T, FIRST_OF_F),
+        Kind::Final => fields_between(landmarks, here, seen, line, FIRST_OF_F, ALL_FIELDS),
         Kind::Unknown => Edit::Passed,
     }
 }

@@ -1,31 +1,41 @@
 // What a record says to the walk, and what it asks of the lent tables.
 use crate::kind::Kind;
 use calendar::Quarter;
+use edits::rows;
+use pfml_fields::AMENDED_OF_E;
+use pfml_fields::CEASE_DATE_OF_E;
+use pfml_fields::FEIN_OF_E;
+use pfml_fields::FINAL_OF_E;
+use pfml_fields::IDENTITY_OF_S;
+use pfml_fields::NO_WAGES_OF_E;
+use pfml_fields::PERIOD_OF_A;
+use pfml_fields::WAGES_OF_S;
+use pfml_fields::YEAR_OF_A;
 use shape::Asking;
 use shape::EmployeeOn;
 use shape::EmployerOn;
 use shape::Said;
 ghost use mathlib.Core.Path.{_≡_};
 ghost use Rattle.chars.specs.Characters.{capitals};
-ghost use Rattle.number.specs.Numbers.{valueIn};
+ghost use Rattle.edits.specs.FieldRow.{valueAt};
 ghost use Rattle.shape.specs.Shape.{asksFor, feinAsked, idAsked};
 ghost use Rattle.pfml.specs.Says.{isSet, saidBy};
 
-fn is_set(line: &[u8], column: u16) -> bool
-    ensures { λ r. ⌜ r ≡ isSet (capitals (now (line .entry))) column ⌝ }
+fn is_set(line: &[u8], field: [u16; 3]) -> bool
+    ensures { λ r. ⌜ r ≡ isSet (capitals (now (line .entry))) field ⌝ }
 {
-    number::value_in(line, column, column) == 1
+    rows::value_at(line, field) == 1
 }
 
 fn employer_on(line: &[u8]) -> Said
     ensures { λ r. ⌜ r ≡ saidBy Kind.Employer (capitals (now (line .entry))) ⌝ }
 {
     Said::OfE(EmployerOn {
-        fein: number::value_in(line, 6, 14),
-        follow: is_set(line, 190),
-        amended: is_set(line, 187),
-        closing: is_set(line, 282),
-        date: number::value_in(line, 283, 290),
+        fein: rows::value_at(line, FEIN_OF_E),
+        follow: is_set(line, NO_WAGES_OF_E),
+        amended: is_set(line, AMENDED_OF_E),
+        closing: is_set(line, FINAL_OF_E),
+        date: rows::value_at(line, CEASE_DATE_OF_E),
     })
 }
 
@@ -33,8 +43,8 @@ fn quarter_on(line: &[u8]) -> Said
     ensures { λ r. ⌜ r ≡ saidBy Kind.Transmitter (capitals (now (line .entry))) ⌝ }
 {
     Said::OfA(Quarter {
-        year: number::value_in(line, 2, 5),
-        month: number::value_in(line, 19, 20),
+        year: rows::value_at(line, YEAR_OF_A),
+        month: rows::value_at(line, PERIOD_OF_A),
     })
 }
 
@@ -42,8 +52,8 @@ fn employee_on(line: &[u8]) -> Said
     ensures { λ r. ⌜ r ≡ saidBy Kind.Employee (capitals (now (line .entry))) ⌝ }
 {
     Said::OfS(EmployeeOn {
-        id: number::value_in(line, 2, 10),
-        wages: number::value_in(line, 64, 77),
+        id: rows::value_at(line, IDENTITY_OF_S),
+        wages: rows::value_at(line, WAGES_OF_S),
         second: 0,
     })
 }
@@ -61,13 +71,13 @@ pub fn said_by(kind: Kind, line: &[u8]) -> Said
     }
 }
 
-// What the columns from one to another read as, asked for.
-fn asks_for(line: &[u8], first: u16, last: u16) -> Asking
-    ensures { λ r. ⌜ r ≡ asksFor (valueIn (capitals (now (line .entry))) first last) ⌝ }
+// What a field reads as, asked for.
+fn asks_for(line: &[u8], field: [u16; 3]) -> Asking
+    ensures { λ r. ⌜ r ≡ asksFor (valueAt (capitals (now (line .entry))) field) ⌝ }
 {
     Asking {
         asks: true,
-        number: number::value_in(line, first, last),
+        number: rows::value_at(line, field),
     }
 }
 
@@ -77,7 +87,7 @@ pub fn fein_asked(kind: Kind, line: &[u8]) -> Asking
 {
     match kind {
         Kind::Transmitter => shape::asks_nothing(),
-        Kind::Employer => asks_for(line, 6, 14),
+        Kind::Employer => asks_for(line, FEIN_OF_E),
         Kind::Employee => shape::asks_nothing(),
         Kind::Total => shape::asks_nothing(),
         Kind::Final => shape::asks_nothing(),
@@ -92,7 +102,7 @@ pub fn id_asked(kind: Kind, line: &[u8]) -> Asking
     match kind {
         Kind::Transmitter => shape::asks_nothing(),
         Kind::Employer => shape::asks_nothing(),
-        Kind::Employee => asks_for(line, 2, 10),
+        Kind::Employee => asks_for(line, IDENTITY_OF_S),
         Kind::Total => shape::asks_nothing(),
         Kind::Final => shape::asks_nothing(),
         Kind::Unknown => shape::asks_nothing(),

@@ -1,27 +1,9 @@
 -- The list of fields: "Columns and fields are the five tables of document 000".
-use Prim.Native.Nat.{ℕ, _-_}
+use Prim.Native.Nat.{ℕ}
 use mathlib.Core.List.{List, [], _∷_, _++_}
 use lib.ListN.{getD}
-use Rattle.field.specs.Classes.{classNumber}
-use Rattle.field.specs.declared.class.Class.{Class}
 use Rattle.field.specs.declared.class.Class.the-variants.{RecordLetter, BlankSpace, Numeric, AccountNumber, Flag, ThirdQuarterFlag, Period, RequiredText, OptionalText, PersonName, EntityCode, StateCode, ZipCode, ZipExtension, TaxYear, EmployerFein, IdentityNumber, CeaseDate}
-
--- "the list of fields, class beside first and last column": a row has the class's number and the two columns.
-abbrev pub row : Class → ℕ → ℕ → List ℕ
-row class first last = classNumber class ∷ first ∷ last ∷ []
-
-abbrev pub classIn : List ℕ → ℕ
-classIn field = getD field 0 0
-
-abbrev pub firstIn : List ℕ → ℕ
-firstIn field = getD field 1 0
-
-abbrev pub lastIn : List ℕ → ℕ
-lastIn field = getD field 2 0
-
--- How many columns a field has.
-abbrev pub widthIn : List ℕ → ℕ
-widthIn field = lastIn field - (firstIn field - 1)
+use Rattle.edits.specs.FieldRow.{row}
 
 -- The five tables row by row: each row has the table's location, and beside it stands the table's name of the field. A field that rules, meaning, writers
 -- or the fast path name has its row above the table.
@@ -239,10 +221,6 @@ rowsOf kind = getD records kind []
 -- "so 72 in all": the fields, counted from 0, record after record
 unfoldable pub fields : List (List ℕ)
 fields = fieldsOfA ++ fieldsOfE ++ fieldsOfS ++ fieldsOfT ++ fieldsOfF
-
--- Past the list there is no field.
-abbrev pub noRow : List ℕ
-noRow = 0 ∷ 0 ∷ 0 ∷ []
 
 -- Where the fields of each record begin in the list. Past the five records, behind it.
 unfoldable pub starts : List ℕ

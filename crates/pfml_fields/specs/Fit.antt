@@ -11,7 +11,8 @@ use Rattle.laws.specs.Table.{every, at}
 use Rattle.field.specs.Classes.{classNumber, classOf, class-again}
 use Rattle.field.specs.declared.class.Class.{Class}
 use Rattle.field.specs.declared.class.Class.the-variants.{Ignored, RecordLetter, BlankSpace, Numeric, AccountNumber, Flag, ThirdQuarterFlag, Period, RequiredText, OptionalText, PersonName, EntityCode, StateCode, ZipCode, ZipExtension, TaxYear, EmployerFein, IdentityNumber, CeaseDate}
-use Rattle.pfml_fields.specs.Fields.{classIn, firstIn, lastIn, widthIn, fieldsOfA, fieldsOfE, fieldsOfS, fieldsOfT, fieldsOfF, fields}
+use Rattle.edits.specs.FieldRow.{classIn, firstIn, lastIn, widthIn}
+use Rattle.pfml_fields.specs.Fields.{fieldsOfA, fieldsOfE, fieldsOfS, fieldsOfT, fieldsOfF, fields}
 use Rattle.pfml_fields.specs.Rows.{all-fields}
 
 -- ---- the columns of a row

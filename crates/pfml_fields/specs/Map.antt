@@ -5,7 +5,8 @@ use mathlib.Core.List.{List, [], _∷_, _++_}
 use lib.Dec.{leb, ltb}
 use lib.ListN.{getD, replicate}
 use Rattle.laws.specs.Choice.{if_then_else_}
-use Rattle.pfml_fields.specs.Fields.{firstIn, lastIn, widthIn, rowsOf, fields, firstField}
+use Rattle.edits.specs.FieldRow.{firstIn, lastIn, widthIn}
+use Rattle.pfml_fields.specs.Fields.{rowsOf, fields, firstField}
 use Rattle.pfml_fields.specs.declared.FieldAt.{FieldAt}
 use Rattle.pfml_fields.specs.declared.FieldAt.the-variants.{Field, Nowhere}
 

@@ -10,7 +10,8 @@ use lib.ListN.{length, getD, List·getD-eq-default}
 use borrow.Author.Tests.{leb-true, ltb-true, le-leb, lt-leb}
 use Rattle.laws.specs.Choice.{both-hold, within}
 use Rattle.laws.specs.Table.{every, at}
-use Rattle.pfml_fields.specs.Fields.{firstIn, lastIn, fieldsOfA, fieldsOfE, fieldsOfS, fieldsOfT, fieldsOfF, records, rowsOf, fields, starts, firstField}
+use Rattle.edits.specs.FieldRow.{firstIn, lastIn}
+use Rattle.pfml_fields.specs.Fields.{fieldsOfA, fieldsOfE, fieldsOfS, fieldsOfT, fieldsOfF, records, rowsOf, fields, starts, firstField}
 use Rattle.pfml_fields.specs.Rows.{five-records, in-record, row-of-record}
 use Rattle.pfml_fields.specs.Tiling.{tiles, tiles-first, rows-tile, row-within}
 use Rattle.pfml_fields.specs.Map.{spread, columnMap, holds, isOf, covers, holding, fieldsAt, numbersOf}

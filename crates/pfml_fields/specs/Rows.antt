@@ -14,7 +14,8 @@ use Rattle.laws.specs.Choice.{both-hold}
 use Rattle.laws.specs.Lists.{any-default}
 use Rattle.laws.specs.Table.{every, at}
 use Rattle.field.specs.declared.class.Class.the-variants.{RecordLetter, BlankSpace, Numeric, AccountNumber, PersonName, EntityCode, TaxYear, EmployerFein, IdentityNumber, Period}
-use Rattle.pfml_fields.specs.Fields.{row, fieldsOfA, fieldsOfE, fieldsOfS, fieldsOfT, fieldsOfF, records, rowsOf, fields, noRow, starts, firstField}
+use Rattle.edits.specs.FieldRow.{row, noRow}
+use Rattle.pfml_fields.specs.Fields.{fieldsOfA, fieldsOfE, fieldsOfS, fieldsOfT, fieldsOfF, records, rowsOf, fields, starts, firstField}
 
 pub five-records : length records ≡ 5
 unfolding records

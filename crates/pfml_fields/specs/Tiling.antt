@@ -10,7 +10,8 @@ use lib.ListN.{length, getD}
 use borrow.Author.Tests.{eqb-true, leb-true}
 use Rattle.laws.specs.Choice.{both-hold}
 use Rattle.laws.specs.Table.{every, at}
-use Rattle.pfml_fields.specs.Fields.{firstIn, lastIn, fieldsOfA, fieldsOfE, fieldsOfS, fieldsOfT, fieldsOfF, records, rowsOf, fields, firstField}
+use Rattle.edits.specs.FieldRow.{firstIn, lastIn}
+use Rattle.pfml_fields.specs.Fields.{fieldsOfA, fieldsOfE, fieldsOfS, fieldsOfT, fieldsOfF, records, rowsOf, fields, firstField}
 use Rattle.pfml_fields.specs.Rows.{five-records, in-record, row-of-record}
 
 -- The first row begins at column `from`, each next one right behind the one before, and the last ends at 290.

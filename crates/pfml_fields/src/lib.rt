@@ -5,8 +5,7 @@ mod map;
 
 use field::class;
 ghost use mathlib.Core.Path.{_≡_};
-ghost use lib.ListN.{getD};
-ghost use Rattle.pfml_fields.specs.Fields.{fields, noRow, firstField};
+ghost use Rattle.pfml_fields.specs.Fields.{fields, firstField};
 ghost use Rattle.pfml_fields.specs.Map.{fieldsAt, numbersOf};
 
 // How many columns a record has.
@@ -160,17 +159,6 @@ pub fn all_rows() -> [[u16; 3]; 72]
     ensures { λ r. ⌜ r ≡ fields ⌝ }
 {
     FIELDS
-}
-
-// A row of the list; past its end, zeros.
-pub fn row_at(k: usize) -> [u16; 3]
-    ensures { λ r. ⌜ r ≡ getD fields k noRow ⌝ }
-{
-    let rows = all_rows();
-    if k < ALL_FIELDS {
-        return rows[k];
-    }
-    [0, 0, 0]
 }
 
 // The number of a record's first field; past the last record, the number of all fields.

@@ -8,7 +8,7 @@ use Rattle.laws.specs.Finding.{value, refused}
 use Rattle.chars.specs.CharacterLaws.{capitals-again}
 use Rattle.chars.specs.Characters.{capitals}
 use Rattle.number.specs.Numbers.{numberIn}
-use Rattle.pfml_fields.specs.Fields.{firstIn, lastIn}
+use Rattle.edits.specs.FieldRow.{firstIn, lastIn}
 use Rattle.pfml.specs.Edits.{rowsFor}
 use Rattle.pfml.specs.Kinds.{kindOf, isKnown}
 use Rattle.write.specs.Records.{recordOf}

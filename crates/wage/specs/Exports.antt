@@ -11,7 +11,7 @@ use Rattle.reason.specs.ReasonNumbers.{Notice, notice}
 use Rattle.lines.specs.Lines.{firstLine}
 use Rattle.chars.specs.Characters.{capitals}
 use Rattle.number.specs.Numbers.{numberIn}
-use Rattle.pfml_fields.specs.Fields.{firstIn, lastIn, noRow}
+use Rattle.edits.specs.FieldRow.{firstIn, lastIn, noRow}
 use Rattle.edits.specs.Formats.{formatOf}
 use Rattle.edits.specs.declared.Opening.{Opening}
 use Rattle.pfml.specs.Edits.{rowsFor}

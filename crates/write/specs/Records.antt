@@ -4,8 +4,10 @@ use mathlib.Core.List.{List, [], _∷_}
 use Rattle.laws.specs.Spelling.{bytes}
 use Rattle.number.specs.Numbers.{putNumber}
 use Rattle.text.specs.Put.{blanks, putText}
+use Rattle.edits.specs.FieldRow.{firstIn, lastIn}
 use Rattle.edits.specs.declared.Open.{Open}
 use Rattle.edits.specs.declared.Totals.{Totals}
+use Rattle.pfml_fields.specs.Fields.{letterOfT, countOfT, codeOfT, feinOfT, blankOfT, wagesOfT, restOfT, letterOfF, countOfF, employersOfF, codeOfF, blankOfF, wagesOfF, restOfF}
 
 -- What stands in a field's columns: a text from the first on, a number in all of them, or blanks.
 pub data Part : Type 0 where
@@ -27,30 +29,40 @@ putAll (part ∷ parts) line = putAll parts (put part line)
 abbrev pub recordOf : List Part → List ℕ
 recordOf parts = putAll parts (blanks 290)
 
--- The fields by their columns, and behind each the name that its table has for it.
+-- A part that fills a field of the list.
+abbrev textAt : List ℕ → List ℕ → Part
+textAt field t = text (firstIn field) t
+
+abbrev numberAt : List ℕ → ℕ → Part
+numberAt field v = number (firstIn field) (lastIn field) v
+
+abbrev blankAt : List ℕ → Part
+blankAt field = blank (firstIn field) (lastIn field)
+
+-- The fields in order, and beside each the name that its table has for it.
 
 -- Total (T) Record
 abbrev pub partsOfT : Open → List Part
 partsOfT this =
-    text 1 (bytes "T") ∷  -- Record Identifier
-    number 2 8 (this .count) ∷  -- Total Number of S Records
-    text 9 (bytes "PFML") ∷  -- Taxing Entity Code
-    number 13 21 (this .fein) ∷  -- Employer's FEIN
-    blank 22 26 ∷  -- Blank Space
-    number 27 40 (this .sum) ∷  -- Total Wages Paid This Quarter
-    blank 41 290 ∷  -- Blank Space
+    textAt letterOfT (bytes "T") ∷  -- Record Identifier
+    numberAt countOfT (this .count) ∷  -- Total Number of S Records
+    textAt codeOfT (bytes "PFML") ∷  -- Taxing Entity Code
+    numberAt feinOfT (this .fein) ∷  -- Employer's FEIN
+    blankAt blankOfT ∷  -- Blank Space
+    numberAt wagesOfT (this .sum) ∷  -- Total Wages Paid This Quarter
+    blankAt restOfT ∷  -- Blank Space
     []
 
 -- Final (F) Record
 abbrev pub partsOfF : Totals → List Part
 partsOfF all =
-    text 1 (bytes "F") ∷  -- Record Identifier
-    number 2 11 (all .count) ∷  -- Total Number of S Records in File
-    number 12 21 (all .employers) ∷  -- Total Number of E Records in File
-    text 22 (bytes "PFML") ∷  -- Taxing Entity Code
-    blank 26 40 ∷  -- Blank Space
-    number 41 55 (all .sum) ∷  -- Total Wages in File
-    blank 56 290 ∷  -- Blank Space
+    textAt letterOfF (bytes "F") ∷  -- Record Identifier
+    numberAt countOfF (all .count) ∷  -- Total Number of S Records in File
+    numberAt employersOfF (all .employers) ∷  -- Total Number of E Records in File
+    textAt codeOfF (bytes "PFML") ∷  -- Taxing Entity Code
+    blankAt blankOfF ∷  -- Blank Space
+    numberAt wagesOfF (all .sum) ∷  -- Total Wages in File
+    blankAt restOfF ∷  -- Blank Space
     []
 
 -- "the record that the walk accepts next, in capitals": T of the open E, F of the whole file

@@ -3,6 +3,17 @@ use edits::Open;
 use edits::Phase;
 use edits::Totals;
 use edits::format;
+use edits::rows;
+use pfml_fields::CODE_OF_F;
+use pfml_fields::CODE_OF_T;
+use pfml_fields::COUNT_OF_F;
+use pfml_fields::COUNT_OF_T;
+use pfml_fields::EMPLOYERS_OF_F;
+use pfml_fields::FEIN_OF_T;
+use pfml_fields::LETTER_OF_F;
+use pfml_fields::LETTER_OF_T;
+use pfml_fields::WAGES_OF_F;
+use pfml_fields::WAGES_OF_T;
 use reason::Reason;
 use reason::Refusal;
 use state::Stage;
@@ -165,11 +176,11 @@ fn put_t(e: Open, out: &mut [u8])
     let letter = LETTER_T;
     let code = pfml::ENTITY;
     put::blank_line(out);
-    put::put_text(out, 1, &letter);
-    number::write_number(out, 2, 8, e.count);
-    put::put_text(out, 9, &code);
-    number::write_number(out, 13, 21, e.fein);
-    number::write_number(out, 27, 40, e.sum);
+    rows::write_text_at(out, LETTER_OF_T, &letter);
+    rows::write_at(out, COUNT_OF_T, e.count);
+    rows::write_text_at(out, CODE_OF_T, &code);
+    rows::write_at(out, FEIN_OF_T, e.fein);
+    rows::write_at(out, WAGES_OF_T, e.sum);
 }
 
 // F of the whole file.
@@ -180,11 +191,11 @@ fn put_f(all: Totals, out: &mut [u8])
     let letter = LETTER_F;
     let code = pfml::ENTITY;
     put::blank_line(out);
-    put::put_text(out, 1, &letter);
-    number::write_number(out, 2, 11, all.count);
-    number::write_number(out, 12, 21, all.employers);
-    put::put_text(out, 22, &code);
-    number::write_number(out, 41, 55, all.sum);
+    rows::write_text_at(out, LETTER_OF_F, &letter);
+    rows::write_at(out, COUNT_OF_F, all.count);
+    rows::write_at(out, EMPLOYERS_OF_F, all.employers);
+    rows::write_text_at(out, CODE_OF_F, &code);
+    rows::write_at(out, WAGES_OF_F, all.sum);
 }
 
 // The T record that the walk accepts next.

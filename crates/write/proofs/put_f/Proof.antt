@@ -15,11 +15,11 @@ returns c =
     let letter = count .before .before .before .before in
     let blank = letter .before .before .before .before .before in
     rw (
-      wages .write-number3 .ensures,
-      code .put-text2 .ensures,
-      employers .write-number2 .ensures,
-      count .write-number .ensures,
-      letter .put-text .ensures,
+      wages .write-at3 .ensures,
+      code .write-text-at2 .ensures,
+      employers .write-at2 .ensures,
+      count .write-at .ensures,
+      letter .write-text-at .ensures,
       blank .blank-line .ensures,
       blank .before .before .before .pre,
     )

@@ -4,7 +4,8 @@ use mathlib.Core.Path.{sym, ap, _∙_}
 use native.Mathlib.Omega.{arith}
 use lib.ListN.{length, getD, List·getD-eq-default}
 use borrow.Author.Needs.{needs}
-use Rattle.pfml_fields.specs.Fields.{fields, noRow, firstField}
+use Rattle.edits.specs.FieldRow.{noRow}
+use Rattle.pfml_fields.specs.Fields.{fields, firstField}
 use Rattle.pfml.specs.Edits.{rowsFor}
 use Rattle.pfml.specs.declared.kind.Kind.{Kind}
 use Rattle.build.specs.RowLaws.{counted-by, place-small, row-there}

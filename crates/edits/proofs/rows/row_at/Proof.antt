@@ -1,11 +1,11 @@
--- `edits::fields::row_at` meets its contract.
+-- `edits::rows::row_at` meets its contract.
 use mathlib.Core.Path.{sym}
 use lib.ListN.{List·getD-eq-default}
 use borrow.Author.Needs.{needs}
 use Rattle.laws.specs.Lists.{any-default}
-use Rattle.edits.specs.RuleNumbers.{noRow}
-use Rattle.edits.proofs.fields.row_at.Statement.{statement}
-use Rattle.edits.proofs.fields.row_at.Tie as tie
+use Rattle.edits.specs.FieldRow.{noRow}
+use Rattle.edits.proofs.rows.row_at.Statement.{statement}
+use Rattle.edits.proofs.rows.row_at.Tie as tie
 
 returns : tie.Need-returns
 returns c = any-default (c .before .before .args .rows .now) (c .before .before .args .k) _ _ (c .before .if1 .taken)
