@@ -1,7 +1,7 @@
 -- Definitions: a field by its row in a list of fields, "class beside first and last column".
 use Prim.Native.Nat.{ℕ, _-_}
 use mathlib.Core.List.{List, [], _∷_}
-use lib.ListN.{getD}
+use lib.ListN.{getD, replicate}
 use Rattle.field.specs.Classes.{classNumber}
 use Rattle.field.specs.declared.class.Class.{Class}
 use Rattle.number.specs.Numbers.{valueIn, putNumber}
@@ -39,3 +39,7 @@ putAt line field v = putNumber line (firstIn field) (lastIn field) v
 -- The line with a text put into a field, from its first column on.
 abbrev pub putTextAt : List ℕ → List ℕ → List ℕ → List ℕ
 putTextAt line field t = putText line (firstIn field) t
+
+-- The line with one character in every column of a field.
+abbrev pub fillAt : List ℕ → List ℕ → ℕ → List ℕ
+fillAt line field c = putTextAt line field (replicate (widthIn field) c)

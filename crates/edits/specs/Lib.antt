@@ -7,6 +7,7 @@ pub mod EditLaws
 pub mod Own
 pub mod WithContext
 pub mod FieldRow
+pub mod FieldRowLaws
 pub mod RuleNumbers
 pub mod Tests
 pub mod FieldLaws

@@ -1,4 +1,4 @@
-// A run of PFML's S records under one employer, each found good by one sweep.
+// The fast path, for a run: PFML's S records under one employer, each found good by one sweep.
 mod marks;
 
 use edits::Open;
@@ -167,8 +167,8 @@ fn lines(
     marks: &mut [u8],
     list: usize,
     most: usize,
-    low: &[u8; 290],
-    high: &[u8; 290],
+    low: &[u8],
+    high: &[u8],
 ) -> Run
     requires { ⌜ Prepared list (now low) (now high) (reachedBy begun (now ids)) × Covers (now marks) (take (begun .state .used) (now ids)) ⌝ }
     ensures { λ r. ⌜ reachedBy r (now (ids .exit)) ≡ onward (now (bytes .entry)) list most (reachedBy begun (now (ids .entry))) ⌝ }
@@ -197,8 +197,8 @@ fn marked(
     ids: &mut [u32],
     list: usize,
     most: usize,
-    low: &[u8; 290],
-    high: &[u8; 290],
+    low: &[u8],
+    high: &[u8],
 ) -> Run
     requires { ⌜ Prepared list (now low) (now high) (reachedBy begun (now ids)) ⌝ }
     ensures { λ r. ⌜ reachedBy r (now (ids .exit)) ≡ onward (now (bytes .entry)) list most (reachedBy begun (now (ids .entry))) ⌝ }
@@ -238,8 +238,8 @@ fn few_then_many(
     ids: &mut [u32],
     list: usize,
     most: usize,
-    low: &[u8; 290],
-    high: &[u8; 290],
+    low: &[u8],
+    high: &[u8],
 ) -> Run
     requires { ⌜ Prepared list (now low) (now high) (reachedBy begun (now ids)) ⌝ }
     ensures { λ r. ⌜ reachedBy r (now (ids .exit)) ≡ onward (now (bytes .entry)) list most (reachedBy begun (now (ids .entry))) ⌝ }

@@ -16,43 +16,69 @@ pub const RECORD: u16 = 290;
 
 // A: the transmitter
 pub const YEAR_OF_A: [u16; 3] = [class::TAX_YEAR, 2, 5];
+
 pub const PERIOD_OF_A: [u16; 3] = [class::PERIOD, 19, 20];
+
 pub const STATE_OF_A: [u16; 3] = [class::STATE_CODE, 139, 140];
 
 // E: an employer
 pub const YEAR_OF_E: [u16; 3] = [class::TAX_YEAR, 2, 5];
+
 pub const FEIN_OF_E: [u16; 3] = [class::EMPLOYER_FEIN, 6, 14];
+
 pub const STATE_OF_E: [u16; 3] = [class::STATE_CODE, 139, 140];
+
 pub const ACCOUNT_OF_E: [u16; 3] = [class::ACCOUNT_NUMBER, 173, 182];
+
 pub const AMENDED_OF_E: [u16; 3] = [class::FLAG, 187, 187];
+
 pub const PERIOD_OF_E: [u16; 3] = [class::PERIOD, 188, 189];
+
 pub const NO_WAGES_OF_E: [u16; 3] = [class::FLAG, 190, 190];
+
 pub const FINAL_OF_E: [u16; 3] = [class::FLAG, 282, 282];
+
 pub const CEASE_DATE_OF_E: [u16; 3] = [class::CEASE_DATE, 283, 290];
 
 // S: an employee
 pub const LETTER_OF_S: [u16; 3] = [class::RECORD_LETTER, 1, 1];
+
 pub const IDENTITY_OF_S: [u16; 3] = [class::IDENTITY_NUMBER, 2, 10];
+
 pub const LAST_NAME_OF_S: [u16; 3] = [class::PERSON_NAME, 11, 30];
+
 pub const FIRST_NAME_OF_S: [u16; 3] = [class::PERSON_NAME, 31, 42];
+
 pub const PERIOD_OF_S: [u16; 3] = [class::PERIOD, 46, 47];
+
 pub const YEAR_OF_S: [u16; 3] = [class::TAX_YEAR, 48, 51];
+
 pub const WAGES_OF_S: [u16; 3] = [class::NUMERIC, 64, 77];
+
 pub const CODE_OF_S: [u16; 3] = [class::ENTITY_CODE, 143, 146];
+
 pub const FEIN_OF_S: [u16; 3] = [class::NUMERIC, 147, 155];
 
 // T: the totals of an employer
 pub const LETTER_OF_T: [u16; 3] = [class::RECORD_LETTER, 1, 1];
+
 pub const COUNT_OF_T: [u16; 3] = [class::NUMERIC, 2, 8];
+
 pub const CODE_OF_T: [u16; 3] = [class::ENTITY_CODE, 9, 12];
+
 pub const FEIN_OF_T: [u16; 3] = [class::NUMERIC, 13, 21];
+
 pub const WAGES_OF_T: [u16; 3] = [class::NUMERIC, 27, 40];
 
 // F: the end of the file
 pub const LETTER_OF_F: [u16; 3] = [class::RECORD_LETTER, 1, 1];
+
 pub const COUNT_OF_F: [u16; 3] = [class::NUMERIC, 2, 11];
+
 pub const EMPLOYERS_OF_F: [u16; 3] = [class::NUMERIC, 12, 21];
+
 pub const CODE_OF_F: [u16; 3] = [class::ENTITY_CODE, 22, 25];
+
 pub const WAGES_OF_F: [u16; 3] = [class::NUMERIC, 41, 55];
 
 // All fields, record after record.
@@ -138,10 +164,15 @@ const FIELDS: [[u16; 3]; 72] = [
 
 // The number of each record's first field, and how many fields there are.
 pub const FIRST_OF_A: usize = 0;
+
 pub const FIRST_OF_E: usize = 17;
+
 pub const FIRST_OF_S: usize = 45;
+
 pub const FIRST_OF_T: usize = 58;
+
 pub const FIRST_OF_F: usize = 65;
+
 pub const ALL_FIELDS: usize = 72;
 
 const STARTS: [usize; 5] = [FIRST_OF_A, FIRST_OF_E, FIRST_OF_S, FIRST_OF_T, FIRST_OF_F];

@@ -42,7 +42,7 @@ use Rattle.pfml.specs.Sums.{passes}
 use Rattle.pfml.specs.declared.kind.Kind.the-variants.{Employee}
 use Rattle.shape.specs.declared.Said.the-variants.{OfS}
 use Rattle.plain.specs.Passing.{textOn, no-end, ink, is-employee, blank-field, code-field, number-read, digits-number, name-field, all-permitted}
-use Rattle.plain.specs.Plain.{lowest, highest, fits, within, idIn, wagesIn, endSize, isPlain, sight}
+use Rattle.plain.specs.Plain.{lowest, highest, fits, within, idIn, wagesIn, endSize, isWhole, isPlain, sight}
 use Rattle.plain.specs.Sweeps.{within-at, digits-below}
 use Rattle.plain.specs.Templates.{Between, digit-spans, name-spans, blank-spans, quarter-fits, reads-month, reads-year, reads-fein}
 use Rattle.plain.specs.declared.Sighted.{Sighted}
@@ -62,12 +62,14 @@ record Asked (low high s : List ℕ) : Type 0 where
 asked : (low high s : List ℕ) → isPlain low high s ≡ true → Asked low high s
 unfolding isPlain
 asked low high s e =
-    let long = both-hold (leb 292 (length s)) _ e in
-    let between = both-hold (within low high s 290) _ (long .1) in
+    let whole = both-hold (isWhole low high s) _ e in
+    let lower = both-hold (leb 290 (length low)) _ (whole .0) in
+    let long = both-hold (leb 290 (length high)) (leb 292 (length s)) (lower .1) in
+    let between = both-hold (within low high s 290) _ (whole .1) in
     let names = both-hold (isFine (everyColumn OfNames (capitals s) 11 42)) _ (between .1) in
     let ends = both-hold (not (eqb (endSize s) 0)) (mayBeFiled (idIn s)) (names .1) in
     record {
-      long = leb-true 292 (length s) (long .0);
+      long = leb-true 292 (length s) (long .1);
       between = between .0;
       names = fine-of _ (names .0);
       ends = let some = eqb-false (endSize s) 0 (not-true _ (ends .0)) in omega arith;

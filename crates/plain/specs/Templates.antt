@@ -20,6 +20,7 @@ use Rattle.chars.specs.Columns.{widthOf}
 use Rattle.number.specs.NumberColumnLaws.{put-number-length, put-number-elsewhere, same-digits, number-digits}
 use Rattle.number.specs.NumberLaws.{number-alike, read-back}
 use Rattle.number.specs.Numbers.{numberIn, putNumber}
+use Rattle.text.specs.Put.{putText}
 use Rattle.plain.specs.Sweeps.{side}
 use Rattle.plain.specs.Plain.{lowestOfAll, highestOfAll, ofEmployer, lowest, highest, fits}
 
@@ -38,11 +39,11 @@ each-in test line first last fit passes k low high =
     rw (same, place) at (at (λ (j c : ℕ). test c) 0 part passes i inside)
 
 low-long : length lowestOfAll ≡ 290
-unfolding lowestOfAll bytes
+unfolding lowestOfAll bytes putText
 low-long = refl
 
 high-long : length highestOfAll ≡ 290
-unfolding highestOfAll bytes
+unfolding highestOfAll bytes putText
 high-long = refl
 
 -- Columns whose characters lie between `low` and `high`, whoever the employer is.
@@ -58,19 +59,19 @@ span low high first last fit above below k from to = (
 
 -- The letter S, the identity number, the names and their first columns, the wages, the code.
 pub letter-span : Span 83 83 1 1
-unfolding lowestOfAll highestOfAll bytes
+unfolding lowestOfAll highestOfAll bytes putText
 letter-span = span 83 83 1 1 (omega arith) tt tt
 
 pub digit-spans : Span 48 57 2 10 × Span 48 57 64 77
-unfolding lowestOfAll highestOfAll bytes
+unfolding lowestOfAll highestOfAll bytes putText
 digit-spans = (span 48 57 2 10 (omega arith) tt tt, span 48 57 64 77 (omega arith) tt tt)
 
 pub name-spans : Span 33 122 11 11 × Span 33 122 31 31
-unfolding lowestOfAll highestOfAll bytes
+unfolding lowestOfAll highestOfAll bytes putText
 name-spans = (span 33 122 11 11 (omega arith) tt tt, span 33 122 31 31 (omega arith) tt tt)
 
 pub blank-spans : Span 32 32 43 45 × Span 32 32 52 63 × Span 32 32 78 142 × Span 32 32 156 290
-unfolding lowestOfAll highestOfAll bytes
+unfolding lowestOfAll highestOfAll bytes putText
 blank-spans = (
   span 32 32 43 45 (omega arith) tt tt,
   span 32 32 52 63 (omega arith) tt tt,
@@ -79,7 +80,7 @@ blank-spans = (
 )
 
 pub code-spans : Span 80 80 143 143 × Span 70 70 144 144 × Span 77 77 145 145 × Span 76 76 146 146
-unfolding lowestOfAll highestOfAll bytes
+unfolding lowestOfAll highestOfAll bytes putText
 code-spans = (
   span 80 80 143 143 (omega arith) tt tt,
   span 70 70 144 144 (omega arith) tt tt,
@@ -89,21 +90,21 @@ code-spans = (
 
 -- No line end stands anywhere, and no small letter outside the names.
 pub all-span : Span 32 122 1 290
-unfolding lowestOfAll highestOfAll bytes
+unfolding lowestOfAll highestOfAll bytes putText
 all-span = span 32 122 1 290 (omega arith) tt tt
 
 pub large-spans : Span 32 96 1 10 × Span 32 96 43 290
-unfolding lowestOfAll highestOfAll bytes
+unfolding lowestOfAll highestOfAll bytes putText
 large-spans = (span 32 96 1 10 (omega arith) tt tt, span 32 96 43 290 (omega arith) tt tt)
 
 -- Where numbers of the employer and of A's quarter are put, every digit may stand.
 low-digits : (k : ℕ) → ((45 ≤ k) × (k < 51)) ⊎ ((146 ≤ k) × (k < 155)) → getD lowestOfAll k 0 ≡ 48
-unfolding lowestOfAll bytes
+unfolding lowestOfAll bytes putText
 low-digits k (inl h) = eqb-true _ 48 (each-in (λ c. eqb c 48) lowestOfAll 46 51 (omega arith) tt k (h .0) (h .1))
 low-digits k (inr h) = eqb-true _ 48 (each-in (λ c. eqb c 48) lowestOfAll 147 155 (omega arith) tt k (h .0) (h .1))
 
 high-digits : (k : ℕ) → ((45 ≤ k) × (k < 51)) ⊎ ((146 ≤ k) × (k < 155)) → getD highestOfAll k 0 ≡ 57
-unfolding highestOfAll bytes
+unfolding highestOfAll bytes putText
 high-digits k (inl h) = eqb-true _ 57 (each-in (λ c. eqb c 57) highestOfAll 46 51 (omega arith) tt k (h .0) (h .1))
 high-digits k (inr h) = eqb-true _ 57 (each-in (λ c. eqb c 57) highestOfAll 147 155 (omega arith) tt k (h .0) (h .1))
 

@@ -48,7 +48,7 @@ pub capital-done : (line : List ℕ) (i : ℕ) → length line ≡ i → capital
 capital-done line i e = rw (← e, drop-length, append-nil) (rw (← capitals-length line) (take-length (capitals line)))
 
 -- Behind the line's end nothing is written.
-none-past : (text line : List ℕ) (at : ℕ) → length line ≤ at → sets line at text ≡ line
+pub none-past : (text line : List ℕ) (at : ℕ) → length line ≤ at → sets line at text ≡ line
 none-past [] line at h = refl
 none-past (c ∷ text) line at h = rw (set-out line at c h) (none-past text line (suc at) (omega arith))
 

@@ -20,10 +20,10 @@ abbrev μ-loop : tie.MeasureT-loop
 μ-loop bytes ids₀ marks₀ list most low high state₀ at₀ left₀ ids marks state at left = left
 
 loop-holds : tie.Need-loop-holds Inv-loop μ-loop
-loop-holds c = (record { prepared = c .before .before .before .before .pre .0; covers = c .before .before .before .before .pre .1; rest = refl }, search needs, refl, refl)
+loop-holds c = (record { prepared = c .before .before .before .before .before .before .pre .0; covers = c .before .before .before .before .before .before .pre .1; rest = refl }, search needs, refl, refl)
 
 takes-requires : tie.Need-takes-requires Inv-loop μ-loop
-takes-requires c κs = (seen-id (c .before .before .before .before .before .before .before .before .before .args .bytes .now) _ _ (c .before .before .before .before .loop .at) _ (c .before .before .sight-at .ensures), c .before .before .before .before .loop .inv .0 .covers)
+takes-requires c κs = (seen-id (c .before .before .before .before .before .before .before .before .before .before .before .args .bytes .now) _ _ (c .before .before .before .before .loop .at) _ (c .before .before .sight-at .ensures), c .before .before .before .before .loop .inv .0 .covers)
 
 same-length : tie.Need-same-length Inv-loop μ-loop
 same-length c = c .before .before .before .before .before .before .loop .inv .2
@@ -35,13 +35,13 @@ returns : tie.Need-returns Inv-loop μ-loop
 returns c = ends-here _ _ _ _ _ _ _ _ _ (c .before .before .before .before .before .before .loop .inv .0) _ (c .before .before .before .before .sight-at .ensures) (sym (c .before .takes .ensures) ∙ not-true (c .before .takes .result) (c .if1 .taken))
 
 keep-requires : tie.Need-keep-requires Inv-loop μ-loop
-keep-requires c κs = seen-id (c .before .before .before .before .before .before .before .before .before .before .before .before .args .bytes .now) _ _ (c .before .before .before .before .before .before .before .loop .at) _ (c .before .before .before .before .before .sight-at .ensures)
+keep-requires c κs = seen-id (c .before .before .before .before .before .before .before .before .before .before .before .before .before .before .args .bytes .now) _ _ (c .before .before .before .before .before .before .before .loop .at) _ (c .before .before .before .before .before .sight-at .ensures)
 
 with-one-requires : tie.Need-with-one-requires Inv-loop μ-loop
-with-one-requires c κs = taken-sums _ _ _ _ _ _ _ _ _ (c .before .before .before .before .before .before .before .before .before .before .before .before .before .before .loop .inv .0) _ (c .before .before .before .before .before .before .before .before .before .before .before .before .sight-at .ensures) (sym (c .before .before .before .before .before .before .before .before .before .takes .ensures) ∙ not-false (c .before .before .before .before .before .before .before .before .before .takes .result) (c .before .before .before .before .before .before .before .before .if1 .left)) (omega (arith, c .before .before .before .before .before .before .before .before .before .before .before .before .before .before .before .before .before .before .before .good .1 .1 .0, c .before .before .before .before .before .before .before .before .before .before .before .before .before .before .loop .inv .2))
+with-one-requires c κs = taken-sums _ _ _ _ _ _ _ _ _ (c .before .before .before .before .before .before .before .before .before .before .before .before .before .before .loop .inv .0) _ (c .before .before .before .before .before .before .before .before .before .before .before .before .sight-at .ensures) (sym (c .before .before .before .before .before .before .before .before .before .takes .ensures) ∙ not-false (c .before .before .before .before .before .before .before .before .before .takes .result) (c .before .before .before .before .before .before .before .before .if1 .left)) (omega (arith, c .before .before .before .before .before .before .before .before .before .before .before .before .before .before .before .before .before .before .before .before .before .good .1 .1 .0, c .before .before .before .before .before .before .before .before .before .before .before .before .before .before .loop .inv .2))
 
 add-at : tie.Need-add-at Inv-loop μ-loop
-add-at c = record { fits = seen-within _ _ _ _ _ (c .before .before .before .before .before .before .before .before .before .before .before .before .before .before .sight-at .ensures) (2 ^ 64) (c .before .before .before .before .before .before .before .before .before .before .before .before .before .before .before .before .loop .inv .1) (omega (arith, c .before .before .before .before .before .before .before .before .before .before .before .before .before .before .before .before .before .before .before .before .before .good .1 .0)) }
+add-at c = record { fits = seen-within _ _ _ _ _ (c .before .before .before .before .before .before .before .before .before .before .before .before .before .before .sight-at .ensures) (2 ^ 64) (c .before .before .before .before .before .before .before .before .before .before .before .before .before .before .before .before .loop .inv .1) (omega (arith, c .before .before .before .before .before .before .before .before .before .before .before .before .before .before .before .before .before .before .before .before .before .before .before .good .1 .0)) }
 
 -- A turn has at least one line left. `search` looks through so many facts and no more: among those of a wide state this one is handed over.
 sub-left : tie.Need-sub-left Inv-loop μ-loop
@@ -53,7 +53,7 @@ loop-less c = search (needs, c .before .before .before .before .before .before .
 loop-again : tie.Need-loop-again Inv-loop μ-loop
 loop-again c = (
   still-going _ _ _ _ _ _ _ _ _ (c .before .before .before .before .before .before .before .before .before .before .before .before .before .before .before .before .loop .inv .0) _ (c .before .before .before .before .before .before .before .before .before .before .before .before .before .before .sight-at .ensures) (sym (c .before .before .before .before .before .before .before .before .before .before .before .takes .ensures) ∙ not-false (c .before .before .before .before .before .before .before .before .before .before .before .takes .result) (c .before .before .before .before .before .before .before .before .before .before .if1 .left)) (c .before .before .before .before .before .before .before .before .before .before .before .before .before .before .before .loop-test .taken) _ _ _ (c .before .with-one .ensures) (c .before .before .before .before .before .before .before .before .keep .ensures) (c .before .before .before .before .mark .ensures),
-  seen-within _ _ _ _ _ (c .before .before .before .before .before .before .before .before .before .before .before .before .before .before .sight-at .ensures) (2 ^ 64) (c .before .before .before .before .before .before .before .before .before .before .before .before .before .before .before .before .loop .inv .1) (omega (arith, c .before .before .before .before .before .before .before .before .before .before .before .before .before .before .before .before .before .before .before .before .before .good .1 .0)),
+  seen-within _ _ _ _ _ (c .before .before .before .before .before .before .before .before .before .before .before .before .before .before .sight-at .ensures) (2 ^ 64) (c .before .before .before .before .before .before .before .before .before .before .before .before .before .before .before .before .loop .inv .1) (omega (arith, c .before .before .before .before .before .before .before .before .before .before .before .before .before .before .before .before .before .before .before .before .before .before .before .good .1 .0)),
   c .before .before .before .before .before .before .before .before .keep .kept .0 ∙ c .before .before .before .before .before .before .before .before .before .before .before .before .before .before .before .before .loop .inv .2,
   c .before .before .before .before .mark .kept .0 ∙ c .before .before .before .before .before .before .before .before .before .before .before .before .before .before .before .before .loop .inv .3,
 )

@@ -6,7 +6,7 @@ use Rattle.employees.proofs.marked.Statement.{statement}
 use Rattle.employees.proofs.marked.Tie as tie
 
 lines-requires : tie.Need-lines-requires
-lines-requires c κs = (c .before .before .before .before .before .before .before .before .before .pre, rw (c .before .before .before .mark-first .ensures) (covers-first (c .before .before .before .before .before .before .before .before .before .args .ids .now) (replicate 32768 0) (c .before .before .before .before .before .before .before .before .before .args .begun .state .used)))
+lines-requires c κs = (c .before .before .before .before .before .before .before .before .before .before .before .pre, rw (c .before .before .before .mark-first .ensures) (covers-first (c .before .before .before .before .before .before .before .before .before .before .before .args .ids .now) (replicate 32768 0) (c .before .before .before .before .before .before .before .before .before .before .before .args .begun .state .used)))
 
 pub marked-spec : {M : Type 1} → statement M
 marked-spec =

@@ -26,6 +26,8 @@ run-from-spec =
     (λ c κs. search needs)
     (λ c κs. search needs)
     (λ c κs. search needs)
+    (λ c. search needs)
+    (λ c. search needs)
     few-then-many-requires
     (λ c. search needs)
     (λ c. search needs)

@@ -10,7 +10,7 @@ returns c =
     let fein = c .before .before in
     let year = fein .before .before .before .before in
     let month = year .before .before .before .before in
-    rw (fein .write-number3 .ensures, year .write-number2 .ensures, month .write-number .ensures)
+    rw (fein .write-at3 .ensures, year .write-at2 .ensures, month .write-at .ensures)
 
 pub put-employer-spec : {M : Type 1} → statement M
 put-employer-spec =

@@ -1,6 +1,7 @@
 -- `build::rows::row_of` meets its contract.
 use Prim.Native.Nat.{ℕ, _+_, _≤_, _<_}
 use mathlib.Core.Path.{sym, ap, _∙_}
+use mathlib.Core.List.{List}
 use native.Mathlib.Omega.{arith}
 use lib.ListN.{length, getD, List·getD-eq-default}
 use borrow.Author.Needs.{needs}
@@ -34,7 +35,8 @@ past c =
 
 returns : tie.Need-returns-2
 returns c =
-    let to = c .before .before in
+    let all = c .before .before in
+    let to = all .before .before in
     let order = to .before .before in
     let kind = order .before in
     let rows = rowsFor (kind .kind-of .result) in
@@ -42,6 +44,7 @@ returns c =
     let counted = counted-by (kind .kind-of .result) _ _ _ (order .order-of .ensures) (to .before .first-field .ensures) (to .first-field2 .ensures) in
     let within : k < length rows = omega arith in
     c .row-at .ensures
+    ∙ ap (λ (list : List (List ℕ)). getD list (to .before .first-field .result + k) noRow) (all .all-rows .ensures)
     ∙ ap (λ (n : ℕ). getD fields (n + k) noRow) (to .before .first-field .ensures ∙ ap firstField (order .order-of .ensures))
     ∙ row-there (kind .kind-of .result) k within
     ∙ ap (λ (named : Kind). getD (rowsFor named) k noRow) (kind .kind-of .ensures)
@@ -51,4 +54,4 @@ row-of-spec =
     tie.close
     (tie.spec
     (λ c κs. search needs) (λ c κs. search needs) (λ c κs. search needs) next (λ c κs. search needs) room past
-    (λ c. search needs) (λ c κs. search needs) returns)
+    (λ c κs. search needs) (λ c. search needs) (λ c. search needs) (λ c κs. search needs) returns)
