@@ -1,4 +1,4 @@
-//! The fields of the five records of PFML by their numbers, as `include/wage.h` has them there
+//! The fields of the five records of PFML by their numbers. `include/wage.h` has the same names,
 //! with a `WAGE_` in front.
 //!
 //! A field's number is its place in the `values` of [`Record::build`](crate::Record::build), and

@@ -1,7 +1,7 @@
 //! The wage file library from Rust: its exports, and a safe face for them.
 //!
-//! `include/wage.h` has each call's promise. A Rust slice is what an export wants of a pointer and a
-//! length, references cannot overlap as the calls must not, and any words are a state that a call
+//! `include/wage.h` has each call's promise. A Rust slice is what an export wants of a pointer and
+//! a length, references cannot overlap as the calls must not, and any words are a state that a call
 //! answers: so nothing is left to be tested here. A thread that makes a call needs 65,536 bytes of
 //! stack, which threads of Rust have unless they are given less.
 //!
@@ -98,8 +98,8 @@ impl std::error::Error for Refusal {}
 
 /// A walk over a file, with its two tables.
 ///
-/// Until it is opened, by [`Walk::open`] or [`Walk::whole`], every other call is refused with 72; and
-/// so is each call on words that tell no walk.
+/// Until it is opened, by [`Walk::open`] or [`Walk::whole`], every other call is refused with 72;
+/// and so is each of them on words that tell no walk.
 #[derive(Clone, Debug, PartialEq, Eq)]
 pub struct Walk {
     /// The words of the state. They may be kept and put back; any other words get an answer too.
@@ -146,9 +146,9 @@ impl Walk {
         told(answer).map(drop)
     }
 
-    /// Reads the first line of the bytes, and tells how many of them it takes, its end included. The
-    /// bytes are all that remains of the file, or at least 292 of them; what comes after the line is
-    /// ignored. After a refusal of the file each later line and the end answer it again.
+    /// Reads the first line of the bytes, and tells how many of them it takes, its end included.
+    /// The bytes are all that remains of the file, or at least 292 of them; what comes after the
+    /// line is ignored. After a refusal of the file each later line and the end answer it again.
     pub fn line(&mut self, bytes: &[u8]) -> Result<usize, Refusal> {
         let (state, ids, list) = (&mut self.state, &mut self.ids, &mut self.list);
         let mut answer = [0; 4];
@@ -221,8 +221,9 @@ impl Walk {
     }
 
     /// Writes the T record that the walk accepts next into 290 bytes, without a line end. Refused,
-    /// the bytes untouched, with 83 for another length, with 80 where no T can stand, with 81 for an
-    /// employer without the S records that its E announces, and with 82 for a sum that is too large.
+    /// the bytes untouched, with 83 for another length, with 80 where no T can stand, with 81 for
+    /// an employer without the S records that its E announces, and with 82 for a sum that is too
+    /// large.
     pub fn write_t(&self, out: &mut [u8]) -> Result<(), Refusal> {
         let mut answer = [0; 4];
         unsafe {
@@ -309,8 +310,9 @@ impl Record {
     /// a name are not looked at, and what is left over of either is ignored.
     ///
     /// Refused, the bytes untouched, with 84 for another length than 290, with 85 for a value that
-    /// is longer than its field, and by the field's own rules. The column is the one that breaks the
-    /// rule; the line is 0. A walk may still refuse what is built here.
+    /// is longer than its field, with 3 for a character that no file may hold, and by the field's
+    /// own rules. The column is the field's first or that of the character, 0 with 84; the line is
+    /// 0. A walk may still refuse what is built here.
     ///
     /// ```
     /// use wage::fields::*;

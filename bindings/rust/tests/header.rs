@@ -1,5 +1,6 @@
-//! The constants of the crate against those of `include/wage.h`: neither has one that the other
-//! lacks or numbers otherwise, and the library knows each field at the columns that the header names.
+//! The constants of the crate against those of `include/wage.h`: both name the same fields with the
+//! same numbers, every other constant of the crate is the header's, and the library has each field
+//! at the column that the header names.
 
 use std::collections::BTreeMap;
 use std::fs;
