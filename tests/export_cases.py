@@ -18,7 +18,7 @@ from program_answers import EARLIER, QUARTER
 
 EXAMPLES = os.path.join(ROOT, "examples")
 HEADER = os.path.join(ROOT, "include", "wage.h")
-RUST = os.path.join(ROOT, "tests", "rust-exports")
+RUST = os.path.join(ROOT, "bindings", "rust")
 # Files of the reference that go through the Rust crate.
 REFERENCE_FILES = 2000
 
@@ -164,8 +164,10 @@ def header():
     check("there are exports", len(exported) == 14)
     fields_in_header(read("include", "wage.h").decode())
     check("wage.h declares them", sorted(re.findall(r"^uint64_t (\w+)\(", read("include", "wage.h").decode(), re.M)) == exported)
-    rust_crate = read("tests", "rust-exports", "src", "lib.rs").decode()
+    rust_crate = "".join(read("bindings", "rust", "src", name).decode() for name in sorted(os.listdir(os.path.join(RUST, "src"))))
     check("the Rust crate declares them", sorted(re.findall(r"pub fn (wage_\w+)\(", rust_crate)) == exported)
+    check("its fields are those of wage.h", re.findall(r"^pub const ([AESTF]_\w+): usize = (\d+);$", rust_crate, re.M)
+          == re.findall(r"^ +WAGE_([AESTF]_\w+) = (\d+)\b", read("include", "wage.h").decode(), re.M))
     for name in IN_RUST:
         told = re.findall(r"\bWAGE_%s(?: =)? (\d+)\b" % name, read("include", "wage.h").decode())
         check("%s in the Rust crate and in wage.h" % name, len(told) == 1 and told == re.findall(r"pub const %s: \w+ = (\d+);" % name, rust_crate))
@@ -179,14 +181,14 @@ def readme():
     """The README's C and Rust are parts of the examples."""
     blocks = re.findall(r"```(c|rust)\n(.*?)```", read("README.md").decode(), re.S)
     check("the README has an example in C and one in Rust", [kind for kind, _ in blocks] == ["c", "rust"])
-    sources = {"c": ("examples", "c", "acknowledge.c"), "rust": ("tests", "rust-exports", "examples", "acknowledge.rs")}
+    sources = {"c": ("examples", "c", "acknowledge.c"), "rust": ("bindings", "rust", "examples", "acknowledge.rs")}
     for kind, block in blocks:
         whole, part = unindented(read(*sources[kind]).decode()), unindented(block)
         check("the README's %s is not that of %s" % (kind, "/".join(sources[kind])), any(whole[k:k + len(part)] == part for k in range(len(whole))))
 
 
 def cargo(command, *words, **environment):
-    built = os.path.join(ROOT, "target", "rust-exports")
+    built = os.path.join(ROOT, "target", "bindings-rust")
     return run("cargo", command, "--offline", "--target-dir", built, *words, cwd=RUST, text=True, env=dict(os.environ, **environment))
 
 

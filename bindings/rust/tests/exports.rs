@@ -3,6 +3,7 @@
 
 use std::fs;
 use std::path::{Path, PathBuf};
+use wage::fields::*;
 use wage::{abi_version, exports, field_number, field_text, Employer, Record, Refusal, Walk};
 use wage::{ABI_VERSION, FORMAT_NONE, FORMAT_PFML, NO_ACCOUNT, STATE_WORDS, UNKNOWN_FORMAT};
 
@@ -276,30 +277,28 @@ fn words_lent_short() {
     );
 }
 
-/// The places of E's fields, as include/wage.h names them.
-const ACCOUNT: usize = 14;
 const E_TEXTS: [(usize, &str); 8] = [
-    (4, "Orchard Hill Farm"),
-    (5, "4 Ridge Road"),
-    (6, "Bangor"),
-    (7, "ME"),
-    (10, "04401"),
-    (21, "Ann Roy"),
-    (22, "ann@orchard.example"),
-    (24, "12"),
+    (E_NAME, "Orchard Hill Farm"),
+    (E_STREET, "4 Ridge Road"),
+    (E_CITY, "Bangor"),
+    (E_STATE, "ME"),
+    (E_ZIP, "04401"),
+    (E_CONTACT, "Ann Roy"),
+    (E_EMAIL, "ann@orchard.example"),
+    (E_PHONE_EXTENSION, "12"),
 ];
 const E_NUMBERS: [(usize, u64); 6] = [
-    (1, 2026),
-    (2, 12_345_678),
-    (ACCOUNT, NO_ACCOUNT),
-    (17, 6),
-    (18, 1),
-    (23, 2_075_550_100),
+    (E_TAX_YEAR, 2026),
+    (E_FEIN, 12_345_678),
+    (E_ACCOUNT, NO_ACCOUNT),
+    (E_PERIOD, 6),
+    (E_S_FOLLOW, 1),
+    (E_PHONE, 2_075_550_100),
 ];
 
 /// The values and texts of a tidy E record.
-fn values_of_e() -> ([u64; 28], Vec<u8>) {
-    let mut values = [0; 28];
+fn values_of_e() -> ([u64; E_FIELDS], Vec<u8>) {
+    let mut values = [0; E_FIELDS];
     for (field, number) in E_NUMBERS {
         values[field] = number;
     }
@@ -317,7 +316,7 @@ fn records_built() {
     let mut line = [b'\n'; 291];
     Record::E.build(&values, &texts, &mut line[..290]).unwrap();
     for (field, number) in E_NUMBERS {
-        if field != ACCOUNT {
+        if field != E_ACCOUNT {
             assert_eq!(field_number(b'E', field, &line), Ok(number));
         }
     }
@@ -327,7 +326,7 @@ fn records_built() {
             text.to_uppercase().as_bytes()
         );
     }
-    assert_eq!(field_text(b'E', ACCOUNT, &line), b"");
+    assert_eq!(field_text(b'E', E_ACCOUNT, &line), b"");
     assert_eq!(line[172..182], [b' '; 10]);
     let mut walk = Walk::new(2, 1);
     walk.open(FORMAT_PFML, YEAR, MONTH).unwrap();
@@ -354,14 +353,14 @@ fn records_turned_away() {
         refused(0, 84)
     );
     for (field, value, answer) in [
-        (1, 10_000, refused(2, 85)),
-        (1, 2024, refused(2, 38)),
-        (2, 690_000_000, refused(6, 44)),
-        (4, 51, refused(24, 85)),
-        (4, 0, refused(24, 32)),
-        (17, 4, refused(188, 40)),
-        (18, 2, refused(190, 47)),
-        (27, 6_302_026, refused(283, 50)),
+        (E_TAX_YEAR, 10_000, refused(2, 85)),
+        (E_TAX_YEAR, 2024, refused(2, 38)),
+        (E_FEIN, 690_000_000, refused(6, 44)),
+        (E_NAME, 51, refused(24, 85)),
+        (E_NAME, 0, refused(24, 32)),
+        (E_PERIOD, 4, refused(188, 40)),
+        (E_S_FOLLOW, 2, refused(190, 47)),
+        (E_CEASE_DATE, 6_302_026, refused(283, 50)),
     ] {
         let mut other = values;
         other[field] = value;
@@ -377,17 +376,70 @@ fn fields_that_are_none() {
     let (values, texts) = values_of_e();
     let mut line = [0; 290];
     Record::E.build(&values, &texts, &mut line).unwrap();
-    for (letter, field, column) in [(b'E', 28, 0), (b'e', 1, 0), (b'S', 2, 11), (b'E', 4, 24)] {
+    for (letter, field, column) in [
+        (b'E', E_FIELDS, 0),
+        (b'e', E_TAX_YEAR, 0),
+        (b'S', S_LAST_NAME, 11),
+        (b'E', E_NAME, 24),
+    ] {
         let refusal = field_number(letter, field, &line).unwrap_err();
         assert_eq!((refusal.number, refusal.column), (30, column));
     }
-    assert_eq!(field_text(b'E', 28, &line), b"");
+    assert_eq!(field_text(b'E', E_FIELDS, &line), b"");
     assert_eq!(field_text(b'E', usize::MAX, &line), b"");
-    assert_eq!(field_text(b'E', 4, &line[..30]), b"ORCHARD");
-    assert_eq!(field_number(b'E', 1, &line[..4]).unwrap_err().column, 5);
+    assert_eq!(field_text(b'E', E_NAME, &line[..30]), b"ORCHARD");
+    let cut = field_number(b'E', E_TAX_YEAR, &line[..4]);
+    assert_eq!(cut.unwrap_err().column, 5);
     for letter in *b"AESTF" {
         assert_eq!(unsafe { exports::wage_field_first(letter, 1) }, 2);
     }
+}
+
+/// The numbers of T and F, read back from the example's own records.
+#[test]
+fn totals_read() {
+    let file = example("accepted-one-employer.txt");
+    let lines: Vec<&[u8]> = file.chunks(291).collect();
+    let (t, f) = (lines[4], lines[5]);
+    for (letter, field, line, number) in [
+        (b'T', T_COUNT, t, 2),
+        (b'T', T_FEIN, t, 12_345_678),
+        (b'T', T_WAGES, t, 123_500),
+        (b'F', F_COUNT, f, 2),
+        (b'F', F_EMPLOYERS, f, 1),
+        (b'F', F_WAGES, f, 123_500),
+    ] {
+        assert_eq!(field_number(letter, field, line), Ok(number), "{field}");
+    }
+}
+
+/// A refusal is an error that says its number, and its place where it has one.
+#[test]
+fn refusals_as_sentences() {
+    for (number, line, column, sentence) in [
+        (46, 3, 147, "refused: reason 46 on line 3, column 147"),
+        (85, 0, 24, "refused: reason 85 in column 24"),
+        (70, 0, 0, "refused: reason 70"),
+        (72, 9, 0, "refused: reason 72 on line 9"),
+    ] {
+        let refusal = Refusal {
+            number,
+            line,
+            column,
+        };
+        let error: Box<dyn std::error::Error> = Box::new(refusal);
+        assert_eq!(error.to_string(), sentence);
+        assert!(error.source().is_none());
+    }
+    let mut walk = Walk::new(2, 1);
+    let end = walk.end().unwrap_err();
+    assert_eq!(end.to_string(), "refused: reason 72");
+    let whole = walk.whole(FORMAT_PFML, YEAR, MONTH, b"").unwrap_err();
+    assert_eq!(whole.to_string(), "refused: reason 5 on line 1, column 1");
+    let debug = format!("{whole:?}");
+    assert_eq!(debug, "Refusal { number: 5, line: 1, column: 1 }");
+    let build = Record::A.build(&[], &[], &mut [0; 290]).unwrap_err();
+    assert_eq!(build.to_string(), "refused: reason 38 in column 2");
 }
 
 /// The inputs of the reference: eight digits of the length, a blank, five digits, LF, the bytes.
@@ -404,7 +456,7 @@ fn inputs(text: &[u8]) -> Vec<&[u8]> {
     found
 }
 
-/// The quarter of an input's header and the file behind it; no quarter where it has none.
+/// The quarter of an input's header and the file after it; no quarter where it has none.
 fn header(input: &[u8]) -> (u64, &[u8]) {
     match input.split_at_checked(7) {
         Some((head, file)) if head[6] == b'\n' && head[..6].iter().all(u8::is_ascii_digit) => (

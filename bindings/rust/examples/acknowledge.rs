@@ -19,7 +19,7 @@ fn main() {
 
     let mut walk = Walk::new(8192, 1024);
     if let Err(refusal) = walk.whole(FORMAT_PFML, quarter / 100, quarter % 100, &file) {
-        eprintln!("refused: {refusal:?}");
+        eprintln!("{refusal}");
     }
     let frames = walk.frames().expect("a walk that has ended has frames");
     print!("{}", String::from_utf8_lossy(&frames));
