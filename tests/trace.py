@@ -21,7 +21,12 @@ import sys
 ROOT = os.path.dirname(os.path.dirname(os.path.abspath(__file__)))
 
 # The columns in which every name is a link, by page and heading.
-LINKED = {"TRACE.md": ("Where",), "PROVED.md": ("Where", "Name"), "CONTRACTS.md": ("Function", "Definition", "Law", "Name")}
+LINKED = {
+    "TRACE.md": ("Where",),
+    "PROVED.md": ("Where", "Name"),
+    "CONTRACTS.md": ("Function", "Definition", "Law", "Name"),
+    "DECISIONS.md": ("Whether it is taken",),
+}
 LINK = re.compile(r"\[`([^`]+)`\]\(([^()\s]+)\)")
 NAME = re.compile(r"\[`([^`]+)`\]\(([^()\s]+)\)|`([^`]+)`()")
 
