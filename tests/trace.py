@@ -2,6 +2,7 @@
 """Holds docs/TRACE.md to document 01, to the requests of document 02 that have landed, and to the crates; and the links of all pages to what they name.
 
     tests/trace.py [DOCUMENTS]     the folder that holds the two papers, ../shared/documents if not given
+    tests/trace.py --links         the links alone; looks at no paper
     tests/trace.py --write         puts in the links that docs/ lacks, and sets the line numbers anew; looks at no paper
 
 Every sentence of document 01 stands in the table, in the paper's order and in its words, and after them every sentence of each request that has a
@@ -19,6 +20,8 @@ import re
 import sys
 
 ROOT = os.path.dirname(os.path.dirname(os.path.abspath(__file__)))
+
+PAPERS = ("01-scope.md", "02-change-requests.md")
 
 # The columns in which every name is a link, by page and heading.
 LINKED = {
@@ -311,22 +314,12 @@ def pages():
     return sorted(p for p in found if "target" not in p.split(os.sep))
 
 
-def main():
-    if sys.argv[1:] == ["--write"]:
-        failures = [f for page in pages() if os.path.dirname(page) == "docs" for f in write(page)]
-        for f in failures:
-            print("FAILED " + f)
-        return 1 if failures else 0
-    folder = sys.argv[1] if len(sys.argv) > 1 else os.path.join(ROOT, "..", "shared", "documents")
-    papers = [os.path.join(folder, name) for name in ("01-scope.md", "02-change-requests.md")]
-    for paper in papers:
-        if not os.path.exists(paper):
-            print("no " + paper + ": give the folder of the documents as the first argument")
-            return 2
-    asked = [s for _, s in sentences(papers[0])] + requests(papers[1])
+def against_papers(folder):
+    """How many sentences the papers have, and what is wrong with docs/TRACE.md beside them."""
+    failures = []
+    asked = [s for _, s in sentences(os.path.join(folder, PAPERS[0]))] + requests(os.path.join(folder, PAPERS[1]))
     table = list(rows(read("docs", "TRACE.md")))
     told = [t for t, _ in table]
-    failures = []
     for s in asked:
         if s not in told:
             failures.append("not in docs/TRACE.md: " + s)
@@ -337,19 +330,32 @@ def main():
             failures.append("no place for: " + t)
     if not failures and told != asked:
         failures.append("the rows are not in the papers' order")
-    passed = len(asked) - min(len(failures), len(asked))
-    looked = 0
-    for page in pages():
-        for what, why in links(page):
-            looked += 1
-            if why:
-                failures.append("%s: %s" % (what, why))
-            else:
-                passed += 1
+    done = sum(1 for _, w in table if not w.startswith("not yet"))
+    print("%d sentences, %d with a place, %d not yet" % (len(asked), done, len(table) - done))
+    return len(asked), failures
+
+
+def main():
+    if sys.argv[1:] == ["--write"]:
+        failures = [f for page in pages() if os.path.dirname(page) == "docs" for f in write(page)]
+        for f in failures:
+            print("FAILED " + f)
+        return 1 if failures else 0
+    passed, failures = 0, []
+    if sys.argv[1:] != ["--links"]:
+        folder = sys.argv[1] if len(sys.argv) > 1 else os.path.join(ROOT, "..", "shared", "documents")
+        for paper in PAPERS:
+            if not os.path.exists(os.path.join(folder, paper)):
+                print("no " + os.path.join(folder, paper) + ": give the folder of the documents as the first argument")
+                return 2
+        asked, failures = against_papers(folder)
+        passed = asked - min(len(failures), asked)
+    looked = [found for page in pages() for found in links(page)]
+    print("%d links" % len(looked))
+    passed += sum(1 for _, why in looked if not why)
+    failures += ["%s: %s" % (what, why) for what, why in looked if why]
     for f in failures:
         print("FAILED " + f)
-    done = sum(1 for _, w in table if not w.startswith("not yet"))
-    print("%d sentences, %d with a place, %d not yet; %d links" % (len(asked), done, len(table) - done, looked))
     print("%d passed, %d failed" % (passed, len(failures)))
     return 1 if failures else 0
 
