@@ -1,9 +1,9 @@
 #!/usr/bin/env python3
-"""Holds docs/PROVED.md to the public functions of the crates.
+"""Holds docs/CONTRACTS.md to the public functions of the crates.
 
-Every public function of a library crate has an `ensures` and no `requires`, and stands in the table of docs/PROVED.md that names the law by which no second
-answer fits its promise; the table names no other. The programs have no public function. A crate below them that reads and writes (it uses `io`) has one that
-answers nothing, and docs/PROVED.md names it behind the table.
+Every public function of a library crate has an `ensures` and no `requires`, and stands in the table of docs/CONTRACTS.md that has its answer and definition, and
+in the one that names the law by which no second answer fits its promise; the tables name no other. The programs have no public function. A crate below them
+that reads and writes (it uses `io`) has one that answers nothing, and docs/CONTRACTS.md names it after the table.
 """
 import glob
 import os
@@ -44,8 +44,19 @@ def named(lines):
     return re.findall(r"`(\w+(?:::\w+)+)`", "\n".join(lines))
 
 
+def contracts(page):
+    """The functions of the first column of the table of contracts, by the files that they lead to."""
+    table = re.search(r"\n## Contracts\n(.*?)\n## ", page, re.S).group(1)
+    cells = [line.split(" | ")[0] for line in table.splitlines() if line.startswith("|")]
+    for name, crate, file in re.findall(r"\[`([\w:]+)`\]\(\.\./crates/(\w+)/src/([\w/]+)\.rt#L[0-9]+\)", "\n".join(cells)):
+        inside = "" if file == "lib" else file.replace("/", "::") + "::"
+        yield "%s::%s%s" % (crate, inside, name.split("::")[-1])
+
+
 def main():
-    section = re.search(r"\n## That no second answer fits\n(.*?)\n## ", read("docs", "PROVED.md"), re.S).group(1).splitlines()
+    page = read("docs", "CONTRACTS.md")
+    told = list(contracts(page))
+    section = re.search(r"\n## That no second answer fits\n(.*?)\n## ", page, re.S).group(1).splitlines()
     listed, apart = named(line for line in section if line.startswith("|")), named(line for line in section if not line.startswith("|"))
     functions, silent = [], []
     for crate, below in re.findall(r"^(\w+):(.*)", read("crates.txt"), re.M):
@@ -57,17 +68,18 @@ def main():
                 silent.append(name)
                 check("%s answers nothing" % name, "->" not in promise and "&mut" not in promise)
                 check("%s asks nothing of its caller" % name, "requires" not in promise)
-                check("%s stands behind the table of docs/PROVED.md, once" % name, apart.count(name) == 1)
+                check("%s stands after the table of docs/CONTRACTS.md, once" % name, apart.count(name) == 1)
             continue
         for name, promise in public_functions(crate):
             functions.append(name)
             check("%s states its answer" % name, "ensures" in promise)
             check("%s asks nothing of its caller" % name, "requires" not in promise)
-            check("%s stands in docs/PROVED.md, once" % name, listed.count(name) == 1)
-    for name in listed:
-        check("%s of docs/PROVED.md is a public function" % name, name in functions)
+            check("%s stands in the contracts of docs/CONTRACTS.md, once" % name, told.count(name) == 1)
+            check("%s stands in docs/CONTRACTS.md with its law, once" % name, listed.count(name) == 1)
+    for name in told + listed:
+        check("%s of docs/CONTRACTS.md is a public function" % name, name in functions)
     for name in apart:
-        check("%s of docs/PROVED.md reads and writes" % name, name in silent)
+        check("%s of docs/CONTRACTS.md reads and writes" % name, name in silent)
     print("%d passed, %d failed" % (passed, failed))
     return 1 if failed else 0
 
