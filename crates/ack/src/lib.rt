@@ -135,7 +135,7 @@ fn walking(st: State, at: usize, held: usize) -> Turned
     ensures { λ r. ⌜ r ≡ record { progress = Walking st; taken = min at held } ⌝ }
 {
     Turned {
-        taken: least(at, held),
+        taken: tables::least(at, held),
         progress: Progress::Walking(st),
     }
 }
@@ -228,21 +228,12 @@ pub fn turn(
     }
 }
 
-fn least(a: usize, b: usize) -> usize
-    ensures { λ r. ⌜ r ≡ min a b ⌝ }
-{
-    if a < b {
-        return a;
-    }
-    b
-}
-
 // Moves the bytes from `at` up to `end` to the front of the buffer, as far as there are any, and tells how many they are: what a turn did not take, before
 // the next read.
 pub fn keep(buf: &mut [u8], at: usize, end: usize) -> usize
     ensures { λ r. ⌜ record { count = r; bytes = now (buf .exit) } ≡ kept at end (now (buf .entry)) ⌝ }
 {
-    let stop = least(end, buf.len());
+    let stop = tables::least(end, buf.len());
     let mut from = at;
     let mut n = 0;
     while from < stop {

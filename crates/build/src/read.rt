@@ -24,7 +24,7 @@ fn text_length(line: &[u8], first: u16, last: u16) -> usize
     ensures { λ r. ⌜ r ≡ length (textIn (capitals (now (line .entry))) first last) ⌝ }
 {
     let from = chars::index_of(first) as usize;
-    let mut end = value::least(last as usize, line.len());
+    let mut end = tables::least(last as usize, line.len());
     while from < end {
         if chars::is_blank(chars::char_at(line, end - 1)) {
             end -= 1;

@@ -13,15 +13,6 @@ ghost use Rattle.write.specs.Records.{put as putPart};
 ghost use Rattle.build.specs.Values.{takenBy, valueBy};
 ghost use Rattle.build.specs.Building.{partBy, fitsIn};
 
-pub fn least(a: usize, b: usize) -> usize
-    ensures { λ r. ⌜ r ≡ min a b ⌝ }
-{
-    if a < b {
-        return a;
-    }
-    b
-}
-
 // How many columns a field has.
 pub fn width_of(first: u16, last: u16) -> u16
     ensures { λ r. ⌜ r ≡ widthOf first last ⌝ }
@@ -40,7 +31,7 @@ pub fn taken(form: Form, entry: u64, left: usize) -> usize
     match form {
         Form::Amount => 0,
         Form::Account => 0,
-        Form::Words => least(entry as usize, left),
+        Form::Words => tables::least(entry as usize, left),
         Form::Letter => 0,
         Form::Code => 0,
         Form::Blank => 0,
@@ -67,7 +58,7 @@ pub fn fits(form: Form, letter: u8, entry: u64, texts: &[u8], width: u16) -> boo
     match form {
         Form::Amount => has_room(entry, width),
         Form::Account => account_fits(entry, width),
-        Form::Words => least(entry as usize, texts.len()) <= width as usize,
+        Form::Words => tables::least(entry as usize, texts.len()) <= width as usize,
         Form::Letter => 1 <= width,
         Form::Code => 4 <= width,
         Form::Blank => true,
@@ -88,7 +79,7 @@ fn put_words(line: &mut [u8], first: u16, last: u16, entry: u64, text: &[u8])
     ensures { λ _. ⌜ now (line .exit) ≡ putText (now (line .entry)) first (take (widthOf first last) (take entry (now (text .entry)))) ⌝ }
 {
     let width = width_of(first, last) as usize;
-    let n = least(least(width, entry as usize), text.len());
+    let n = tables::least(tables::least(width, entry as usize), text.len());
     put::put_text(line, first, &text[0..n]);
 }
 

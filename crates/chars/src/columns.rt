@@ -3,11 +3,9 @@ use reason::Edit;
 use reason::Reason;
 ghost use mathlib.Core.Path.{_≡_};
 ghost use Prim.Native.Nat.{_-_, _<_};
-ghost use Rattle.laws.specs.Finding.{fine, broken};
-ghost use Rattle.laws.specs.Choice.{if_then_else_};
 ghost use Rattle.reason.specs.ReasonNumbers.{findingOf, numberOf};
 ghost use Rattle.chars.specs.Characters.{capitals};
-ghost use Rattle.chars.specs.Columns.{allowedTest, everyColumn, isFine};
+ghost use Rattle.chars.specs.Columns.{allowedTest, everyColumn, unless, isFine};
 ghost use Rattle.chars.specs.Sweep.{allPass, isBetween, readsAsOfName};
 
 // What a column may hold.
@@ -19,11 +17,11 @@ pub enum Allowed {
     OfNames,
 }
 
-// A column is broken unless it is good.
-fn unless(good: bool, column: u16, reason: Reason) -> Edit
-    ensures { λ r. ⌜ findingOf r ≡ (if good then fine else broken column (numberOf reason)) ⌝ }
+// A column is broken unless the rule passes.
+pub fn unless(passes: bool, column: u16, reason: Reason) -> Edit
+    ensures { λ r. ⌜ findingOf r ≡ unless passes column (numberOf reason) ⌝ }
 {
-    if good {
+    if passes {
         return Edit::Passed;
     }
     Edit::Broken(column, reason)

@@ -1,5 +1,6 @@
 // The rules of a field that look at its own record alone, behind its class test.
 use crate::Landmarks;
+use chars::columns;
 use field::class::Class;
 use number::Number;
 use reason::Edit;
@@ -7,22 +8,11 @@ use reason::Reason;
 use text::address;
 ghost use mathlib.Core.Path.{_≡_};
 ghost use Rattle.laws.specs.Finding.{findingIn};
-ghost use Rattle.reason.specs.ReasonNumbers.{findingOf, numberOf};
+ghost use Rattle.reason.specs.ReasonNumbers.{findingOf};
 ghost use Rattle.number.specs.Numbers.{readingOf};
 ghost use Rattle.chars.specs.Characters.{capitals};
-ghost use Rattle.chars.specs.Columns.{unless};
 ghost use Rattle.edits.specs.Own.{isFinal};
 ghost use Rattle.edits.specs.Tests.{ceaseTest, thirdQuarterTest, ownRest};
-
-// A column is broken unless the rule passes.
-pub fn unless(passes: bool, column: u16, reason: Reason) -> Edit
-    ensures { λ r. ⌜ findingOf r ≡ unless passes column (numberOf reason) ⌝ }
-{
-    if passes {
-        return Edit::Passed;
-    }
-    Edit::Broken(column, reason)
-}
 
 // What a reading says of the edits passed on the way to its value.
 fn edit_in(n: Number) -> Edit
@@ -53,9 +43,9 @@ fn cease_edit(landmarks: Landmarks, line: &[u8], first: u16, last: u16) -> Edit
         if date == 0 {
             return Edit::Broken(first, Reason::DateMissing);
         }
-        return unless(calendar::is_date(date), first, Reason::NoDate);
+        return columns::unless(calendar::is_date(date), first, Reason::NoDate);
     }
-    unless(date == 0, first, Reason::DateNotFinal)
+    columns::unless(date == 0, first, Reason::DateNotFinal)
 }
 
 fn third_quarter_edit(landmarks: Landmarks, line: &[u8], first: u16) -> Edit

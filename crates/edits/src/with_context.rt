@@ -7,6 +7,7 @@ use crate::format;
 use crate::own;
 use calendar::Quarter;
 use calendar::Timing;
+use chars::columns;
 use reason::Edit;
 use reason::Reason;
 ghost use mathlib.Core.Path.{_≡_};
@@ -43,7 +44,7 @@ fn fein_new(seen: bool, full: bool, first: u16) -> Edit
     if seen {
         return Edit::Broken(first, Reason::FeinRepeated);
     }
-    own::unless(!full, first, Reason::EmployerListFull)
+    columns::unless(!full, first, Reason::EmployerListFull)
 }
 
 fn identity_new(v: u64, seen: bool, full: bool, first: u16) -> Edit
@@ -55,7 +56,7 @@ fn identity_new(v: u64, seen: bool, full: bool, first: u16) -> Edit
     if seen {
         return Edit::Broken(first, Reason::IdentityRepeated);
     }
-    own::unless(!full, first, Reason::IdTableFull)
+    columns::unless(!full, first, Reason::IdTableFull)
 }
 
 fn count_of_s(v: u64, count: u64, follow: bool, first: u16) -> Edit
@@ -65,7 +66,7 @@ fn count_of_s(v: u64, count: u64, follow: bool, first: u16) -> Edit
         return Edit::Broken(first, Reason::CountNotOfS);
     }
     if count == 0 {
-        return own::unless(!follow, first, Reason::NoneUnderE);
+        return columns::unless(!follow, first, Reason::NoneUnderE);
     }
     Edit::Passed
 }
@@ -75,7 +76,7 @@ fn date_in_quarter(last_return: bool, v: u64, filed: Quarter, first: u16) -> Edi
     ensures { λ r. ⌜ findingOf r ≡ firstBroken (dateInQuarter «last_return» v filed first) ⌝ }
 {
     if last_return {
-        return own::unless(
+        return columns::unless(
             calendar::in_quarter(v, filed),
             first,
             Reason::DateOutsideQuarter,
@@ -99,7 +100,7 @@ fn final_if_current(timing: Timing, v: u64, first: u16) -> Edit
     ensures { λ r. ⌜ findingOf r ≡ firstBroken (finalIfCurrent timing v first) ⌝ }
 {
     if must_be_final(timing) {
-        return own::unless(v != 0, first, Reason::NotFinal);
+        return columns::unless(v != 0, first, Reason::NotFinal);
     }
     Edit::Passed
 }
@@ -122,7 +123,7 @@ fn rule_edit(
     let all = around.all;
     match rule {
         Rule::Nothing => Edit::Passed,
-        Rule::YearInTime => own::unless(
+        Rule::YearInTime => columns::unless(
             v <= calendar::current_quarter(held).year,
             first,
             Reason::YearTooLate,
@@ -131,17 +132,17 @@ fn rule_edit(
             calendar::timing_of(held, quarter_on(landmarks, line)),
             first,
         ),
-        Rule::YearOfA => own::unless(v == filed.year, first, Reason::YearNotOfA),
-        Rule::PeriodOfA => own::unless(v == filed.month, first, Reason::PeriodNotOfA),
+        Rule::YearOfA => columns::unless(v == filed.year, first, Reason::YearNotOfA),
+        Rule::PeriodOfA => columns::unless(v == filed.month, first, Reason::PeriodNotOfA),
         Rule::FeinNew => fein_new(seen.fein, around.list_full, first),
-        Rule::FeinOfE => own::unless(v == open.fein, first, Reason::FeinNotOfE),
+        Rule::FeinOfE => columns::unless(v == open.fein, first, Reason::FeinNotOfE),
         Rule::DateInQuarter => date_in_quarter(own::is_final(landmarks, line), v, filed, first),
         Rule::IdentityNew => identity_new(v, seen.id, around.ids_full, first),
         Rule::CountOfS => count_of_s(v, open.count, open.follow, first),
-        Rule::WagesOfS => own::unless(v == open.sum, first, Reason::WagesNotOfS),
-        Rule::FileCountOfS => own::unless(v == all.count, first, Reason::FileCountNotOfS),
-        Rule::FileCountOfE => own::unless(v == all.employers, first, Reason::FileCountNotOfE),
-        Rule::FileWagesOfS => own::unless(v == all.sum, first, Reason::FileWagesNotOfS),
+        Rule::WagesOfS => columns::unless(v == open.sum, first, Reason::WagesNotOfS),
+        Rule::FileCountOfS => columns::unless(v == all.count, first, Reason::FileCountNotOfS),
+        Rule::FileCountOfE => columns::unless(v == all.employers, first, Reason::FileCountNotOfE),
+        Rule::FileWagesOfS => columns::unless(v == all.sum, first, Reason::FileWagesNotOfS),
         Rule::FinalIfCurrent => final_if_current(calendar::timing_of(held, filed), v, first),
     }
 }

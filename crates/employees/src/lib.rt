@@ -62,7 +62,7 @@ fn has_room(st: State) -> bool
     ensures { λ r. ⌜ r ≡ hasRoom (walkOf st) ⌝ }
 {
     let all = st.all;
-    if all.count < fitness::MOST_EMPLOYEES {
+    if all.count < shape::MOST_EMPLOYEES {
         return st.lines < MOST_LINES;
     }
     false

@@ -95,7 +95,7 @@ pub fn end_length(s: &[u8], at: usize) -> usize
     if s[at + 1] == 10 { 2 } else { 1 }
 }
 
-fn wide(n: u16) -> usize
+fn as_length(n: u16) -> usize
     ensures { λ r. ⌜ r ≡ n ⌝ }
 {
     n as usize
@@ -115,11 +115,11 @@ fn column_beyond(n: u16) -> u16
 pub fn cut_line(s: &[u8], n: u16) -> Cut
     ensures { λ r. ⌜ cutOf r ≡ cutting n (firstLine (now (s .entry))) ⌝ }
 {
-    let length = line_length(s, wide(n) + 1);
-    if wide(n) < length {
+    let length = line_length(s, as_length(n) + 1);
+    if as_length(n) < length {
         return Cut::Refused(column_beyond(n), Reason::LineLength);
     }
-    if length < wide(n) {
+    if length < as_length(n) {
         return Cut::Refused((length + 1) as u16, Reason::LineLength);
     }
     let end = end_length(s, length);

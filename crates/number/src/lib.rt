@@ -13,7 +13,18 @@ pub enum Number {
     Refused(u16, Reason),
 }
 
-fn wide(c: u8) -> u64
+// The lesser of two numbers.
+pub fn least(a: u64, b: u64) -> u64
+    ensures { λ r. ⌜ r ≡ min a b ⌝ }
+{
+    if a < b {
+        return a;
+    }
+    b
+}
+
+// A byte as a number.
+pub fn wide(c: u8) -> u64
     ensures { λ r. ⌜ r ≡ c ⌝ }
 {
     c as u64

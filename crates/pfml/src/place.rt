@@ -104,7 +104,7 @@ pub fn place_edit(phase: Phase, follow: bool, kind: Kind) -> Edit
 fn one_more(count: u64) -> Edit
     ensures { λ r. ⌜ findingOf r ≡ unless (not (leb mostEmployees count)) 1 61 ⌝ }
 {
-    if count < 100000 {
+    if count < shape::MOST_EMPLOYEES {
         return Edit::Passed;
     }
     Edit::Broken(1, Reason::TooManyS)

@@ -129,12 +129,6 @@ fn within(line: &[u8], low: &[u8], high: &[u8]) -> bool
     good & ((low[289] <= last) & (last <= high[289]))
 }
 
-fn wide(c: u8) -> u64
-    ensures { λ r. ⌜ r ≡ c ⌝ }
-{
-    c as u64
-}
-
 // The places from..to read as digits, without asking whether they are.
 fn digits_in(line: &[u8], from: usize, to: usize) -> u64
     requires { ⌜ (from ≤ to) × (to ≤ length (now line)) × (to - from ≤ 18) ⌝ }
@@ -143,7 +137,7 @@ fn digits_in(line: &[u8], from: usize, to: usize) -> u64
     let mut v: u64 = 0;
     let mut i = from;
     while i < to {
-        v = v * 10 + wide(line[i] % 16);
+        v = v * 10 + number::wide(line[i] % 16);
         i += 1;
     }
     v

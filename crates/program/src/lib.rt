@@ -73,22 +73,13 @@ fn read_one(buf: &mut [u8], have: usize) -> Held
     }
 }
 
-fn least(a: u64, b: u64) -> u64
-    ensures { λ r. ⌜ (r ≤ a) × (r ≤ b) ⌝ }
-{
-    if a < b {
-        return a;
-    }
-    b
-}
-
 // Reads up to `want` bytes behind those held, as far as there is room, and tells how many are held then.
 fn read_piece(buf: &mut [u8], have: usize, want: u64) -> usize
     requires { ⌜ have ≤ length (now buf) ⌝ }
     ensures { λ r. ⌜ (have ≤ r) × (r ≤ have + want) × (r ≤ length (now (buf .exit))) ⌝ }
 {
     let room = buf.len() - have;
-    let end = have + least(want, room as u64) as usize;
+    let end = have + number::least(want, room as u64) as usize;
     have + io::read_full(libc::STDIN_FILENO, &mut buf[have..end])
 }
 
@@ -96,7 +87,7 @@ fn read_piece(buf: &mut [u8], have: usize, want: u64) -> usize
 fn read_case(buf: &mut [u8], at: Between) -> Held
     ensures { λ r. ⌜ r .bytes ≤ length (now (buf .exit)) ⌝ }
 {
-    let have = least(at.have as u64, buf.len() as u64) as usize;
+    let have = number::least(at.have as u64, buf.len() as u64) as usize;
     let left = at.left;
     if left == 0 {
         return Held {
@@ -106,7 +97,7 @@ fn read_case(buf: &mut [u8], at: Between) -> Held
             failed: false,
         };
     }
-    let end = read_piece(buf, have, least(at.piece, left));
+    let end = read_piece(buf, have, number::least(at.piece, left));
     if end == have {
         return unread();
     }

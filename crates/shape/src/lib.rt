@@ -9,6 +9,9 @@ ghost use Rattle.edits.specs.Edit.{firstBroken};
 ghost use Rattle.shape.specs.EndOfInput.{endEdits};
 ghost use Rattle.shape.specs.Shape.{asksNothing};
 
+// The most S records of a file.
+pub const MOST_EMPLOYEES: u64 = 100000;
+
 // An E record: its FEIN, whether S records follow, whether it amends a return, whether it closes the business, and the cease date.
 pub struct EmployerOn {
     pub fein: u64,

@@ -18,8 +18,6 @@ ghost use Rattle.tables.specs.Room.{entriesUsed};
 ghost use Rattle.state.specs.Walks.{reading, walkOf, standingOf};
 ghost use Rattle.state.specs.Unfit.{fileUnfit, openUnfit, isOpen, isLeft, bothUnfit, standingUnfit, unfit};
 
-pub const MOST_EMPLOYEES: u64 = 100000;
-
 const MOST_FEIN: u64 = 999999999;
 
 // How many entries of a list of this length are used.
@@ -39,7 +37,7 @@ fn file_unfit(format: Format, list: usize, all: Totals, lines: u32) -> bool
     if entries < all.employers {
         return true;
     }
-    if MOST_EMPLOYEES < all.count {
+    if shape::MOST_EMPLOYEES < all.count {
         return true;
     }
     if all.count * record::most_cents(format) < all.sum {

@@ -121,25 +121,16 @@ pub fn put_words(st: State, words: &mut [u64])
     }
 }
 
-fn least(n: u64, most: u64) -> u64
-    ensures { λ r. ⌜ r ≡ min n most ⌝ }
-{
-    if n < most {
-        return n;
-    }
-    most
-}
-
 fn line_in(n: u64) -> u32
     ensures { λ r. ⌜ r ≡ lineIn n ⌝ }
 {
-    least(n, 4294967295) as u32
+    number::least(n, 4294967295) as u32
 }
 
 fn column_in(n: u64) -> u16
     ensures { λ r. ⌜ r ≡ columnIn n ⌝ }
 {
-    least(n, 65535) as u16
+    number::least(n, 65535) as u16
 }
 
 // A refusal whose number is none of the paper's tells nothing.

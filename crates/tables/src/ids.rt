@@ -1,5 +1,5 @@
 // The table of identity numbers: one number an entry.
-use crate::lesser;
+use crate::least;
 ghost use mathlib.Core.Path.{_≡_};
 ghost use lib.ListN.{take, set};
 ghost use Rattle.tables.specs.Tables.{wiped, isAmong};
@@ -8,7 +8,7 @@ ghost use Rattle.tables.specs.Tables.{wiped, isAmong};
 pub fn zero_first(ids: &mut [u32], n: usize)
     ensures { λ _. ⌜ now (ids .exit) ≡ wiped 0 n (now (ids .entry)) ⌝ }
 {
-    let end = lesser(n, ids.len());
+    let end = least(n, ids.len());
     let mut i = 0;
     while i < end {
         ids[i] = 0;
@@ -29,7 +29,7 @@ pub fn put(ids: &mut [u32], at: usize, id: u32)
 pub fn has(ids: &[u32], n: usize, id: u32) -> bool
     ensures { λ r. ⌜ r ≡ isAmong id (take n (now (ids .entry))) ⌝ }
 {
-    let end = lesser(n, ids.len());
+    let end = least(n, ids.len());
     let mut found = false;
     let mut i = 0;
     while i < end {

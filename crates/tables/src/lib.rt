@@ -14,7 +14,8 @@ pub struct Employer {
     pub cents: u64,
 }
 
-fn lesser(a: usize, b: usize) -> usize
+// The lesser of two lengths.
+pub fn least(a: usize, b: usize) -> usize
     ensures { λ r. ⌜ r ≡ min a b ⌝ }
 {
     if a < b {

@@ -1,6 +1,6 @@
 // The employer list: an entry holds a FEIN, a count and cents.
 use crate::Employer;
-use crate::lesser;
+use crate::least;
 ghost use mathlib.Core.Path.{_≡_};
 ghost use lib.ListN.{take, set, getD};
 ghost use Rattle.tables.specs.Tables.{wiped, isAmong, noEmployer, feinsOf, opened, closed};
@@ -54,7 +54,7 @@ pub fn entry_at(list: &[Employer], at: usize) -> Employer
 pub fn zero_first(list: &mut [Employer], n: usize)
     ensures { λ _. ⌜ now (list .exit) ≡ wiped noEmployer n (now (list .entry)) ⌝ }
 {
-    let end = lesser(n, list.len());
+    let end = least(n, list.len());
     let rest = Employer {
         fein: 0,
         count: 0,
@@ -71,7 +71,7 @@ pub fn zero_first(list: &mut [Employer], n: usize)
 pub fn has_fein(list: &[Employer], n: usize, fein: u64) -> bool
     ensures { λ r. ⌜ r ≡ isAmong fein (feinsOf (take n (now (list .entry)))) ⌝ }
 {
-    let end = lesser(n, list.len());
+    let end = least(n, list.len());
     let mut found = false;
     let mut i = 0;
     while i < end {

@@ -25,9 +25,9 @@ again c =
 returns : tie.Need-returns Inv μ
 returns c =
     let args = c .before .before .before .before .args in
-    let lesser = c .before .before .lesser in
-    let end : c .before .loop .i ≡ lesser .result = omega arith in
-    c .before .loop .inv .1 ∙ rw (end, lesser .ensures, take-least)
+    let least = c .before .before .least in
+    let end : c .before .loop .i ≡ least .result = omega arith in
+    c .before .loop .inv .1 ∙ rw (end, least .ensures, take-least)
 
 pub has-spec : {M : Type 1} → statement M
 has-spec =

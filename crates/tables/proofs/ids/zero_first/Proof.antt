@@ -28,9 +28,9 @@ again c =
 returns : tie.Need-returns Inv μ
 returns c =
     let args = c .before .before .before .before .args in
-    let lesser = c .before .before .lesser in
-    let end : c .before .loop .i ≡ lesser .result = omega arith in
-    c .before .loop .inv .2 ∙ rw (end, lesser .ensures) (wiped-least 0 (args .n) (args .ids .now))
+    let least = c .before .before .least in
+    let end : c .before .loop .i ≡ least .result = omega arith in
+    c .before .loop .inv .2 ∙ rw (end, least .ensures) (wiped-least 0 (args .n) (args .ids .now))
 
 pub zero-first-spec : {M : Type 1} → statement M
 zero-first-spec =

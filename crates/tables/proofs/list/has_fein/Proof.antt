@@ -15,7 +15,7 @@ use Rattle.tables.specs.TableSteps.{among-more, take-least, feins-length
 use Rattle.tables.specs.Tables.{isAmong, noEmployer, feinsOf}
 use Rattle.tables.proofs.Employer as T
 use Rattle.tables.proofs.Employer.Laws as T′
-use Rattle.tables.proofs.Called.{lesser}
+use Rattle.tables.proofs.Called.{least}
 use Rattle.tables.proofs.Entries.{sliceOf, Shared, scaled, looks-entry, shuts-entry, points}
 use Rattle.by_hand.proofs.Walk.{URA, Heap, Atoms, Given, Memory, Routine, Fun, SProp, Lft, Share, Env, Tables, Item, Val, RefT, Room, Sq, Triple, Places}
 use Rattle.by_hand.proofs.Walk.{Ends, gone, Exit, finishes, proves, locals, envOf, lets-go, lose, var, counts, refers, sets, resets, receives, tests, Asked, made, asks, words}
@@ -23,8 +23,8 @@ use Rattle.by_hand.proofs.Walk.{Nearer, nearer-wf, Turned, none, some, fullShar
 use Rattle.by_hand.proofs.Walk.{tablesOf, fmOf, runs, atRet, anyQ, ‵, _$_, !, by, rewrite, look, store, forget, stop, hop, fld, from, load, lit, false-lit}
 use Rattle.by_hand.proofs.Walk.{of-opd, bin, and-then, no-more, assigns-last, first, blocks, loops, again, exec, returns, whole, sub, look-in, uint-vals}
 use Rattle.by_hand.proofs.Walk.{uint-tells, uint-makes, bool-makes, slice-vals, shr-slice-tells, cited}
-use Rattle.tables.proofs.lesser.Met as lesser-met
-use Rattle.tables.proofs.lesser.Symbol.{name as #lesser, routine as lesser-routine}
+use Rattle.tables.proofs.least.Met as least-met
+use Rattle.tables.proofs.least.Symbol.{name as #least, routine as least-routine}
 use Rattle.tables.proofs.list.has_fein as f
 use Rattle.tables.proofs.list.has_fein.Code as code
 use Rattle.tables.proofs.list.has_fein.Code.Mir as mirs
@@ -48,7 +48,7 @@ module _ {M : Type 1} (𝓤 : URA M) (H : Heap 𝓤) (A : Atoms 𝓤) (W : Given
   abbrev Post : Val → SProp 𝓤
   Post = Exit W f.ended ends (f.clauses 𝓤 H A mem run) .post y
 
-  -- ---- the loop, up to the lesser of n and the length
+  -- ---- the loop, up to the least of n and the length
   module _ (end : ℕ) (is-end : end ≡ min n (length ys)) where
     -- whether it is among the first k
     abbrev found : ℕ → Bool
@@ -93,11 +93,11 @@ module _ {M : Type 1} (𝓤 : URA M) (H : Heap 𝓤) (A : Atoms 𝓤) (W : Given
         exec ! (𝓣 .C) (𝓣 .Λ) En mirs.t-6 (atRet En Post) $ sets ! (of-opd ! (var ! 14 refl)) 24 refl (tt, tt) $ returns ! (look ! 24 refl) $ lose ! 1 $ lets-go ! 1 refl $
         by ! (finishes W f.ended ends (f.clauses 𝓤 H A mem run) y (vbool (found (k .0))) (found (k .0)) (tt, (tt, (tt, tt))) (tt, (tt, (tt, tt))) (found (k .0) ≡ isAmong fein (feinsOf (take n ys))) refl (ap found all ∙ found-all) (bool-makes 𝓤 H A W (found (k .0)) _ refl)))
 
-  walk : Triple 𝓤 (𝓣 .C #lesser) (Asked (lesser W mem run))
+  walk : Triple 𝓤 (𝓣 .C #least) (Asked (least W mem run))
       → Sq W (‵ (flft κ q) ∷ ‵ (Shared κ x) ∷ locals En (none ∷ some (sliceOf x) ∷ some (vint w64 n) ∷ some (vint w64 fein) ∷ []) []) (runs (𝓣 .C) (𝓣 .Λ) En (code.function .body) (atRet En Post))
   walk known =
       sets ! (of-opd ! (counts ! 22 refl refl)) 10 refl (tt, record { fits = room .0 }) $
-      asks ! (lesser W mem run) known (fmOf 𝓤 H (W .laws) 𝓣) ((tt, tt, tt, (n, (length ys, tt)), (vint w64 n ∷ [], (vint w64 (length ys) ∷ [], tt))), tt) tt
+      asks ! (least W mem run) known (fmOf 𝓤 H (W .laws) 𝓣) ((tt, tt, tt, (n, (length ys, tt)), (vint w64 n ∷ [], (vint w64 (length ys) ∷ [], tt))), tt) tt
       0 (made (uint-makes 𝓤 H A W w64 n _ (refl, n-fits)), (made (uint-makes 𝓤 H A W w64 (length ys) _ (refl, room .0)), tt)) refl (and-then ! (var ! 20 refl) (and-then ! (var ! 10 refl) (no-more !))) (λ end _ is-end is.
       receives ! 16 refl (tt, record { fits = is .1 }) $
       sets ! (of-opd ! (false-lit !)) 14 refl (tt, tt) $ rewrite ! 14 (λ (b : Bool). ‵ (fat fullShare tyBool (spotOf 𝓤 H En 5 .1) 0 (vbool b))) (sym (among-none fein)) refl $
@@ -112,5 +112,5 @@ has-fein-spec 𝓤 H 𝓜 𝓖 𝓡 =
     (λ κs qs bounds a g are. let W = givenOf 𝓤 H 𝓜 𝓖 in (
       ((tt, (tt, (record { fits = are .0 .0 .1 .0 }, tt))), ((tt, record { fits = are .1 .0 .1 }), ((tt, record { fits = are .1 .1 .0 .1 }), tt))),
       λ ps. lose ! 3 $ lose ! 2 $ walk 𝓤 H (𝓖 .A) W (𝓜 .mem) (𝓡 .run) (tablesOf 𝓤 H 𝓜 (tables 𝓤 H 𝓜 𝓡 code.env)) (κs .0) (qs .0) (a .0) (a .1 .0) (a .1 .1 .0) (are .0 .0 .1) (are .1 .0 .1) ps
-          (cited 𝓤 H (Asked (lesser W (𝓜 .mem) (𝓡 .run))) 𝓜 𝓡 code.env #lesser lesser-routine code.calls-tables·lesser (lesser-met.met 𝓤 H 𝓜 𝓖 𝓡)),
+          (cited 𝓤 H (Asked (least W (𝓜 .mem) (𝓡 .run))) 𝓜 𝓡 code.env #least least-routine code.calls-tables·least (least-met.met 𝓤 H 𝓜 𝓖 𝓡)),
     ))

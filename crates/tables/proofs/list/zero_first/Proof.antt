@@ -13,7 +13,7 @@ use Rattle.tables.specs.TableSteps.{wiped-more, wiped-least}
 use Rattle.tables.specs.Tables.{wiped, noEmployer}
 use Rattle.tables.proofs.Employer as T
 use Rattle.tables.proofs.Employer.Laws as T′
-use Rattle.tables.proofs.Called.{lesser}
+use Rattle.tables.proofs.Called.{least}
 use Rattle.tables.proofs.Entries.{sliceOf, Owned, at-rest, scaled, opens-entry, closes-entry, points}
 use Rattle.by_hand.proofs.Walk.{URA, Heap, Atoms, Given, Memory, Routine, Fun, SProp, Lft, Share, Env, Tables, Item, Val, RefT, Room, Sq, Triple, Places}
 use Rattle.by_hand.proofs.Walk.{Ends, gone, kept-slice, Exit, finishes, proves, locals, envOf, lets-go, lose, var, counts, refers, sets, receives, tests, Asked, made}
@@ -21,8 +21,8 @@ use Rattle.by_hand.proofs.Walk.{asks, holding, Nearer, nearer-wf, Turned, none,
 use Rattle.by_hand.proofs.Walk.{runs, atRet, anyQ, ‵, _$_, !, by, rewrite, look, store, store-raw, forget, stop, hop, from, lit, unit-lit, of-opd, bin, and-then}
 use Rattle.by_hand.proofs.Walk.{no-more, assigns, assigns-last, first, blocks, loops, again, exec, returns, agg, uint-vals, uint-tells, uint-makes}
 use Rattle.by_hand.proofs.Walk.{nothing-makes, slice-vals, mut-slice-tells, plain, cited}
-use Rattle.tables.proofs.lesser.Met as lesser-met
-use Rattle.tables.proofs.lesser.Symbol.{name as #lesser, routine as lesser-routine}
+use Rattle.tables.proofs.least.Met as least-met
+use Rattle.tables.proofs.least.Symbol.{name as #least, routine as least-routine}
 use Rattle.tables.proofs.list.zero_first as f
 use Rattle.tables.proofs.list.zero_first.Code as code
 use Rattle.tables.proofs.list.zero_first.Code.Mir as mirs
@@ -46,7 +46,7 @@ module _ {M : Type 1} (𝓤 : URA M) (H : Heap 𝓤) (A : Atoms 𝓤) (W : Given
   abbrev Post : Val → SProp 𝓤
   Post = Exit W f.ended ends (f.clauses 𝓤 H A mem run) .post y
 
-  -- ---- the loop, up to the lesser of n and the length
+  -- ---- the loop, up to the least of n and the length
   module _ (end : ℕ) (is-end : end ≡ min n (length ys)) where
     abbrev upto : ℕ → List Employer
     upto k = wiped noEmployer k ys
@@ -87,11 +87,11 @@ module _ {M : Type 1} (𝓤 : URA M) (H : Heap 𝓤) (A : Atoms 𝓤) (W : Given
         exec ! (𝓣 .C) (𝓣 .Λ) En mirs.t-6 (atRet En Post) $ sets ! (of-opd ! (unit-lit !)) 20 refl (tt, tt) $ returns ! (look ! 20 refl) $ lets-go ! 2 refl $
         by ! (finishes W f.ended ends (f.clauses 𝓤 H A mem run) y vunit tt (l, (tt, tt)) (same, (tt, tt)) (l ≡ wiped noEmployer n ys) refl (ap upto (all ∙ is-end) ∙ wiped-least noEmployer n ys) (nothing-makes 𝓤 H A W tt (vunit ∷ []) refl)))
 
-  walk : Triple 𝓤 (𝓣 .C #lesser) (Asked (lesser W mem run))
+  walk : Triple 𝓤 (𝓣 .C #least) (Asked (least W mem run))
       → Sq W (‵ (flft κ q) ∷ ‵ (Owned κ x ys) ∷ locals En (none ∷ some (sliceOf x) ∷ some (vint w64 n) ∷ []) []) (runs (𝓣 .C) (𝓣 .Λ) En (code.function .body) (atRet En Post))
   walk known =
       sets ! (of-opd ! (counts ! 18 refl refl)) 8 refl (tt, record { fits = room .0 }) $
-      asks ! (lesser W mem run) known (fmOf 𝓤 H (W .laws) 𝓣) ((tt, tt, tt, (n, (length ys, tt)), (vint w64 n ∷ [], (vint w64 (length ys) ∷ [], tt))), tt) tt
+      asks ! (least W mem run) known (fmOf 𝓤 H (W .laws) 𝓣) ((tt, tt, tt, (n, (length ys, tt)), (vint w64 n ∷ [], (vint w64 (length ys) ∷ [], tt))), tt) tt
       0 (made (uint-makes 𝓤 H A W w64 n _ (refl, n-fits)), (made (uint-makes 𝓤 H A W w64 (length ys) _ (refl, room .0)), tt)) refl (and-then ! (var ! 16 refl) (and-then ! (var ! 8 refl) (no-more !))) (λ end _ is-end is.
       receives ! 14 refl (tt, record { fits = is .1 }) $
       sets ! (agg ! (and-then ! (lit ! tt) (and-then ! (lit ! tt) (and-then ! (lit ! tt) (no-more !))))) 12 refl (LL.lawful T.the-type T′.the-laws 𝓤 H A W .typed noEmployer _ at-rest .0) $
@@ -107,5 +107,5 @@ zero-first-spec 𝓤 H 𝓜 𝓖 𝓡 =
     (λ κs qs bounds a g are. let W = givenOf 𝓤 H 𝓜 𝓖 in (
       ((tt, (tt, (record { fits = are .0 .0 .1 .0 }, tt))), ((tt, record { fits = are .1 .0 .1 }), tt)),
       λ ps. lose ! 2 $ walk 𝓤 H (𝓖 .A) W (𝓜 .mem) (𝓡 .run) (tablesOf 𝓤 H 𝓜 (tables 𝓤 H 𝓜 𝓡 code.env)) (κs .0) (qs .0) (a .0) (a .1 .0) (are .0 .0 .1) (are .1 .0 .1) ps
-          (cited 𝓤 H (Asked (lesser W (𝓜 .mem) (𝓡 .run))) 𝓜 𝓡 code.env #lesser lesser-routine code.calls-tables·lesser (lesser-met.met 𝓤 H 𝓜 𝓖 𝓡)),
+          (cited 𝓤 H (Asked (least W (𝓜 .mem) (𝓡 .run))) 𝓜 𝓡 code.env #least least-routine code.calls-tables·least (least-met.met 𝓤 H 𝓜 𝓖 𝓡)),
     ))

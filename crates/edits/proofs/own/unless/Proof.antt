@@ -1,6 +1,0 @@
--- `edits::own::unless` meets its contract.
-use Rattle.edits.proofs.own.unless.Statement.{statement}
-use Rattle.edits.proofs.own.unless.Tie as tie
-
-pub unless-spec : {M : Type 1} → statement M
-unless-spec = tie.close (tie.spec (λ c. rw (c .if1 .taken)) (λ c. rw (c .if1 .left)))
