@@ -2,7 +2,7 @@
 use Prim.Native.Nat.{ℕ, _-_}
 use mathlib.Core.Bool.{Bool, _&&_, _||_}
 use lib.Dec.{eqb, ltb, leb}
-use Rattle.walk.specs.WholeLaws.{nextPlace}
+use Rattle.walk.specs.LineAndRun.{nextPlace}
 use Rattle.ack.specs.Turns.{longestLine}
 use Rattle.ack.specs.declared.Place.{Place}
 

@@ -9,7 +9,8 @@ use lib.Dec.{eqb, ltb, leb}
 use lib.ListN.{length, drop, length-drop, drop-of-length-le}
 use lib.Seq.{drop-drop, drop-length}
 use borrow.Author.Tests.{ltb-true, ltb-false, eqb-false}
-use Rattle.laws.specs.Choice.{if_then_else_, both-hold}
+use Rattle.laws.specs.Choice.{if_then_else_}
+use Rattle.laws.specs.ChoiceLaws.{both-hold}
 use Rattle.laws.specs.Lists.{behind}
 use Rattle.tables.specs.Room.{Tables}
 use Rattle.tables.specs.TableSteps.{drop-least}

@@ -25,9 +25,9 @@ use Rattle.shape.specs.Shape.{Shape, passed, verdictBy}
 use Rattle.shape.specs.declared.EmployerOn.{EmployerOn}
 use Rattle.shape.specs.declared.Said.{Said}
 use Rattle.shape.specs.declared.Said.the-variants.{OfA, OfE, OfS, OfT, OfF, OfNone}
-use Rattle.record.specs.ShapeOf.{shapeOf, lawfulOf}
+use Rattle.record.specs.ShapeOf.{shapeOf}
 use Rattle.record.specs.Judge.{recordOn, editsAmong}
-use Rattle.record.specs.Laws.{judge-says, judged-length, alike-judged, other-judged, passed-fits}
+use Rattle.record.specs.Laws.{judge-says, judged-length, alike-judged, other-judged, passed-fits, lawfulOf}
 use Rattle.tables.specs.Laws.{among-none}
 use Rattle.tables.specs.Room.{Room}
 use Rattle.tables.specs.Tables.{isAmong}

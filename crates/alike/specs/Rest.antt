@@ -5,7 +5,8 @@ use mathlib.Core.List.{List, [], _∷_, _++_, map}
 use mathlib.Core.Path.{_≡_, refl, sym, ap, _∙_}
 use lib.Dec.{eqb}
 use lib.ListN.{length}
-use Rattle.laws.specs.Choice.{if_then_else_, both-hold}
+use Rattle.laws.specs.Choice.{if_then_else_}
+use Rattle.laws.specs.ChoiceLaws.{both-hold}
 use Rattle.lines.specs.Lines.{Line}
 use Rattle.shape.specs.Blot.{employee-alike, line-same}
 use Rattle.shape.specs.Hidden.{ofEmployee, ofEmployer, isEmployee, isEmployer, employeeOn, blot, MeetsOwn}

@@ -7,7 +7,8 @@ use mathlib.Core.Path.{_≡_, refl, sym}
 use native.Mathlib.Omega.{arith}
 use lib.Dec.{ltb}
 use borrow.Author.Tests.{eqb-true, eq-eqb, ltb-true, ltb-false}
-use Rattle.laws.specs.Choice.{if_then_else_, both-hold}
+use Rattle.laws.specs.Choice.{if_then_else_}
+use Rattle.laws.specs.ChoiceLaws.{both-hold}
 use Rattle.calendar.specs.Quarters.{lastYear, isQuarterMonth, isAfter, isSame, currentQuarter, timingOf, mayReport}
 use Rattle.calendar.specs.Laws.{ComesLater, not-true, quarter-months, after-later, later-after, not-later, neither-after}
 use Rattle.calendar.specs.declared.Quarter.{Quarter}

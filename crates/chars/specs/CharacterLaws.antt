@@ -7,7 +7,8 @@ use native.Mathlib.Omega.{arith}
 use lib.Dec.{eqb, leb}
 use lib.ListN.{length, getD, take, drop, length-map, List·getD-map}
 use borrow.Author.Tests.{eqb-true, eqb-false, le-leb, lt-leb, eq-eqb, ne-eqb}
-use Rattle.laws.specs.Choice.{if_then_else_, within}
+use Rattle.laws.specs.Choice.{if_then_else_}
+use Rattle.laws.specs.ChoiceLaws.{within}
 use Rattle.chars.specs.Characters.{isPermitted, capitalOf, capitals, isBlank, isDigit, isLetter, isOfName}
 
 -- A line read in capitals has each of its characters in capitals, and as many.

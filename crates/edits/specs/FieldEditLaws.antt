@@ -9,13 +9,13 @@ use lib.ListN.{length, getD}
 use Rattle.laws.specs.Finding.{Finding, fine, orElse, firstOf}
 use Rattle.laws.specs.First.{first-same, first-shift}
 use Rattle.field.specs.Classes.{classOf}
-use Rattle.edits.specs.Edit.{Edit, firstBroken}
-use Rattle.edits.specs.EditLaws.{first-append, AllFine, all-fine, all-append}
+use Rattle.edits.specs.Edit.{Edit, firstBroken, AllFine}
+use Rattle.edits.specs.EditLaws.{first-append, all-fine, all-append}
 use Rattle.edits.specs.RuleNumbers.{Around, ruleOf, noRow}
-use Rattle.edits.specs.Tests.{fieldAt, fieldsTest}
+use Rattle.edits.specs.Tests.{fieldAt, fieldsTest, AllWide}
 use Rattle.edits.specs.FieldEdits.{editsOf, fieldEdits, contextOf, contextEdits}
 use Rattle.edits.specs.Own.{own}
-use Rattle.edits.specs.FieldParts.{Wide, field-parts}
+use Rattle.edits.specs.FieldParts.{field-parts}
 
 -- What the edits of field k find.
 abbrev found : Around → List ℕ → List (List ℕ) → List ℕ → ℕ → Finding
@@ -47,10 +47,6 @@ in-order a line (row ∷ rows) (which ∷ rules) =
     ∙ first-same (λ k. f (k + 1)) (found a line rows rules) (length rows) 0 (λ k h. behind a line row rows which rules (0 + k))
     ∙ in-order a line rows rules in
     ap (orElse (firstBroken (editsOf a line row which))) tail ∙ sym (first-append (editsOf a line row which) (fieldEdits a line rows rules))
-
--- Every row is as wide as its class asks.
-abbrev pub AllWide : List (List ℕ) → Type 0
-AllWide rows = (k : ℕ) → k < length rows → Wide (classOf (getD (getD rows k noRow) 0 0)) (getD (getD rows k noRow) 1 0) (getD (getD rows k noRow) 2 0)
 
 pub fields-parts : (a : Around) (line : List ℕ) (rows : List (List ℕ)) (rules : List ℕ) → AllWide rows
     → fieldsTest a line rows rules ≡ firstBroken (fieldEdits a line rows rules)

@@ -8,6 +8,8 @@ use Rattle.chars.specs.ColumnLaws.{every-says}
 use Rattle.chars.specs.declared.columns.Allowed.{Allowed}
 use Rattle.field.specs.ClassTests.{leadTest, allowedIn, classTest}
 use Rattle.field.specs.declared.class.Class.{Class}
+use Rattle.field.specs.declared.class.Class.the-variants.{Ignored, RecordLetter, BlankSpace, Numeric, AccountNumber, Flag, ThirdQuarterFlag, Period, RequiredText, OptionalText, PersonName, EntityCode, StateCode, ZipCode, ZipExtension, TaxYear, EmployerFein, IdentityNumber, CeaseDate}
+use Rattle.field.specs.Classes.{classes, classOf, classNumber}
 
 pub class-says : (class : Class) (line : List ℕ) (first last : ℕ)
     → classTest class line first last ≡ orElse (leadTest class line first last) (everyColumn (allowedIn class line first last) line first last)
@@ -32,3 +34,26 @@ module _ (class : Class) (line : List ℕ) (first last : ℕ) where
       → classTest class line first last ≡ everyColumn allowed line first last
   unfolding classTest
   lead-leaves allowed passed holds = rw (passed, holds)
+
+-- The class is found again from its number.
+pub class-again : (class : Class) → classOf (classNumber class) ≡ class
+unfolding classOf classes
+class-again Ignored = refl
+class-again RecordLetter = refl
+class-again BlankSpace = refl
+class-again Numeric = refl
+class-again AccountNumber = refl
+class-again Flag = refl
+class-again ThirdQuarterFlag = refl
+class-again Period = refl
+class-again RequiredText = refl
+class-again OptionalText = refl
+class-again PersonName = refl
+class-again EntityCode = refl
+class-again StateCode = refl
+class-again ZipCode = refl
+class-again ZipExtension = refl
+class-again TaxYear = refl
+class-again EmployerFein = refl
+class-again IdentityNumber = refl
+class-again CeaseDate = refl

@@ -8,8 +8,8 @@ use borrow.Author.Tests.{lt-ltb, le-ltb, ltb-true, ltb-false}
 use lib.Dec.{ltb}
 use lib.ListN.{length, getD, drop, length-drop, length-map, length-append, List·getD-eq-default, List·getD-append, List·getD-map}
 use lib.Seq.{getD-drop, getD-append-add, ext-getD}
-use Rattle.lines.specs.Changed.{hasNoEnd, Keeps, text-no-end, onlyEnd, outline, alike-cut, bytesOf}
-use Rattle.lines.specs.HiddenPlaces.{hiddenIn, hidden, EqualBut, Hides, MayHold}
+use Rattle.lines.specs.Changed.{text-no-end, onlyEnd, outline, alike-cut, bytesOf}
+use Rattle.lines.specs.HiddenPlaces.{hiddenIn, hidden, EqualBut, Hides, MayHold, hasNoEnd, Keeps}
 use Rattle.lines.specs.Laws.{text-at, size-positive, lines-nil, lines-cons, lines-joined}
 use Rattle.lines.specs.Lines.{Line, isEnd, textOf, firstLine, sizeOf, linesOf, joined}
 

@@ -13,11 +13,12 @@ use Rattle.laws.specs.Finding.{Finding, fine, broken, orElse, Reading, value, r
 use Rattle.lines.specs.Cutting.{cutting}
 use Rattle.lines.specs.Lines.{Line, firstLine, sizeOf}
 use Rattle.lines.specs.CutOutcomes.{taken-is-size, refused-number}
-use Rattle.lines.specs.Window.{Lent, lent-alike, lent-line}
+use Rattle.lines.specs.Window.{lent-alike, lent-line}
+use Rattle.lines.specs.Lent.{Lent}
 use Rattle.chars.specs.Characters.{capitals}
 use Rattle.chars.specs.CharacterLaws.{capitals-take}
-use Rattle.edits.specs.Edit.{firstBroken}
-use Rattle.edits.specs.EditLaws.{AllFine, not-broken}
+use Rattle.edits.specs.Edit.{firstBroken, AllFine}
+use Rattle.edits.specs.EditLaws.{not-broken}
 use Rattle.edits.specs.declared.Context.{Context}
 use Rattle.edits.specs.declared.Phase.{Phase}
 use Rattle.edits.specs.declared.Phase.the-variants.{BeforeA, AfterA, EOpen, AfterT, AfterF}

@@ -7,7 +7,7 @@ use native.Mathlib.Omega.{arith}
 use lib.Dec.{eqb}
 use lib.ListN.{length, getD}
 use borrow.Author.Tests.{eqb-true, eq-eqb}
-use Rattle.laws.specs.Choice.{both-hold}
+use Rattle.laws.specs.ChoiceLaws.{both-hold}
 use Rattle.laws.specs.Finding.{fine, orElse, Reading, value, refused, findingIn}
 use Rattle.lines.specs.Cutting.{cutting}
 use Rattle.lines.specs.Lines.{Line}

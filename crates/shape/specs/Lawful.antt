@@ -6,8 +6,7 @@ use mathlib.Core.Path.{_≡_}
 use lib.Dec.{leb}
 use lib.ListN.{take}
 use Rattle.laws.specs.Finding.{broken}
-use Rattle.edits.specs.Edit.{firstBroken}
-use Rattle.edits.specs.EditLaws.{AllFine}
+use Rattle.edits.specs.Edit.{firstBroken, AllFine}
 use Rattle.edits.specs.Labels.{AllLabelled}
 use Rattle.edits.specs.declared.Context.{Context}
 use Rattle.edits.specs.declared.Open.{Open}

@@ -1,8 +1,9 @@
 -- The state of a walk as 27 words of 64 bits that a caller lends, and the walk that any words tell.
-use Prim.Native.Nat.{ℕ, _≤_, min}
-use mathlib.Core.Bool.{Bool, not}
+use Prim.Native.Nat.{ℕ, _≤_, min, _<_}
+use mathlib.Core.Bool.{Bool, not, false}
 use mathlib.Core.List.{List, [], _∷_, _++_}
 use mathlib.Core.Option.{Option, none, some}
+use mathlib.Core.Path.{_≡_}
 use lib.Dec.{ltb, eqb}
 use lib.ListN.{length, getD, drop}
 use Rattle.laws.specs.Choice.{if_then_else_}
@@ -158,3 +159,9 @@ walkIn words = if ltb (length words) wordCount then unfitWalk else walkTold word
 abbrev pub toldOf : Told → Option Standing
 toldOf (Known stage) = some (standingOf stage)
 toldOf Unknown = none
+
+-- They are too few; or the first is none of the seven; or it says refused, and the number is none of the paper's.
+pub data Unknown (words : List ℕ) : Type 0 where
+  few : length words < wordCount → Unknown words
+  nowhere : 6 < word words 0 → Unknown words
+  unnamed : word words 0 ≡ 6 → isListed (word words 1) ≡ false → Unknown words

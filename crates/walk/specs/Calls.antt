@@ -60,3 +60,7 @@ wholeFile held file t =
     if mayOpen held
     then leaves (roomOf t) held (recordsOnto (held .format) [] (linesOf file)) (meaning (roomOf t) held file)
     else record { says = openingNotice held; taken = 0; walk = refusedWalk (held .format) (openingNotice held); left = t }
+
+-- All that remains.
+abbrev pub all : ℕ → ℕ
+all remain = remain

@@ -1,7 +1,9 @@
 -- Follows the code; need not be believed. A line and the plain S records right behind it, taken at once.
-use Prim.Native.Nat.{ℕ}
+use Prim.Native.Nat.{ℕ, _+_}
 use mathlib.Core.List.{List}
 use lib.ListN.{length}
+use lib.Dec.{eqb}
+use Rattle.laws.specs.Choice.{if_then_else_}
 use Rattle.lines.specs.Lines.{firstLine}
 use Rattle.tables.specs.Room.{Tables, tables}
 use Rattle.tables.specs.declared.Employer.{Employer}
@@ -23,3 +25,7 @@ behindStep s o = withList (behind s (length (o .left .list)) (leftIn o)) (o .lef
 -- The line at the front of these bytes, and those behind it.
 abbrev pub linesStep : Walk → List ℕ → Tables → Out
 linesStep walk s t = behindStep s (lineStep walk (firstLine s) t)
+
+-- Where the loop goes on after a line: behind the bytes taken, or at the end after a refusal.
+abbrev pub nextPlace : ℕ → ℕ → ℕ → ℕ
+nextPlace at taken end = if eqb taken 0 then end else (at + taken)

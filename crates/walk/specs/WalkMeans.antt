@@ -12,7 +12,7 @@ use Rattle.laws.specs.Finding.{Finding}
 use Rattle.reason.specs.ReasonNumbers.{Notice, notice}
 use Rattle.lines.specs.Laws.{from-nil, from-skip, from-line}
 use Rattle.lines.specs.Lines.{Line, firstLine, sizeOf, linesFrom}
-use Rattle.lines.specs.Window.{Lent}
+use Rattle.lines.specs.Lent.{Lent}
 use Rattle.calendar.specs.Quarters.{isAllowed}
 use Rattle.chars.specs.Characters.{capitals}
 use Rattle.edits.specs.FormatLaws.{opens-known}
@@ -28,7 +28,7 @@ use Rattle.shape.specs.Shape.{Judged, refusal, passed}
 use Rattle.shape.specs.Fits.{Bounded}
 use Rattle.shape.specs.EndOfInputLaws.{endTest, end-parts}
 use Rattle.shape.specs.declared.Said.{Said}
-use Rattle.tables.specs.Pad.{pad-none}
+use Rattle.tables.specs.PadLaws.{pad-none}
 use Rattle.tables.specs.Room.{Room, Tables, roomOf, zeroed}
 use Rattle.tables.specs.Tables.{noEmployer}
 use Rattle.meaning.specs.Before.{phaseIn, idsUnder, totalsIn, entriesIn}
@@ -41,10 +41,10 @@ use Rattle.state.specs.Walks.{refusedWalk}
 use Rattle.step.specs.MoveLaws.{line-fit, end-fit, open-allowed, open-refused}
 use Rattle.step.specs.Moves.{Moved, allWell, again, refuses, accepts, byVerdict, endVerdict, openingNotice}
 use Rattle.step.specs.Steps.{Out, carried, lineStep, endStep}
-use Rattle.walk.specs.At.{walkAt, tablesAt, Good}
+use Rattle.walk.specs.At.{walkAt, tablesAt}
 use Rattle.walk.specs.CallLaws.{pieces-are-whole, line-at, end-at}
 use Rattle.walk.specs.Calls.{Lending, calls, walked, refusedWith, leaves, wholeFile}
-use Rattle.walk.specs.GoodLaws.{Kept, good-none, good-more}
+use Rattle.walk.specs.GoodLaws.{Kept, good-none, good-more, Good}
 use Rattle.walk.specs.StepLaws.{room-at, used-after, after-said, wrote, ids-none}
 
 -- ---- a refused walk
