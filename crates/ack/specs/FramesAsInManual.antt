@@ -1,4 +1,4 @@
--- Definitions: what the manual says of a file, told of the acknowledgement that the program writes.
+-- Definitions: the sentence in the manual, told of the acknowledgement that the program writes.
 use Prim.Native.Nat.{ℕ}
 use mathlib.Core.List.{List}
 use mathlib.Core.Path.{_≡_}

@@ -1,9 +1,9 @@
--- The bytes that a turn did not take, moved to the front of the buffer, before the next read.
+-- Definitions: the bytes that a turn did not take, moved to the front of the buffer, before the next read.
 use Prim.Native.Nat.{ℕ, _-_, min}
 use mathlib.Core.List.{List, _++_}
 use lib.ListN.{length, take, drop}
 
--- The buffer with n bytes from a place on at its front; behind them it is as it was.
+-- The buffer with n bytes from a place on at its front; after them it is as it was.
 unfoldable pub moved : ℕ → ℕ → List ℕ → List ℕ
 moved at n bytes = take n (drop at bytes) ++ drop n bytes
 

@@ -1,4 +1,4 @@
--- The sentence in the manual, of the acknowledgement that the program writes, and how long that is.
+-- Laws: the sentence in the manual holds of the acknowledgement that the program writes; and how long that is.
 use Prim.Native.Nat.{ℕ, _+_, _*_, _≤_}
 use mathlib.Core.Bool.{Bool, true, false}
 use mathlib.Core.List.{List}
@@ -61,6 +61,6 @@ file-bound : (held : Opening) (file : List ℕ) (allowed : Bool) → mayOpen hel
 file-bound held file true e = rw e (outcome-bound held file (meaning programRoom held file) refl)
 file-bound held file false e = rw (e, refusal-length (openingNotice held)) (omega arith)
 
--- Of every input, whatever it is: the employers are the E records of the file behind its header.
+-- Of every input, whatever it is: the employers are the E records of the file after its header.
 pub acknowledgement-bound : (format : Format) (input : List ℕ) → length (acknowledgement format input) ≤ 35 * length (employersOf (recordsOf format (drop headerSize input))) + 35
 acknowledgement-bound format input = file-bound (headerOpening format input) (drop headerSize input) (mayOpen (headerOpening format input)) refl

@@ -1,4 +1,4 @@
--- The program as turns over reads.
+-- Definitions: the program as turns over reads, and what its last turn writes.
 use mathlib.Core.Bool.{true, false}
 use mathlib.Core.List.{List, [], _∷_, _++_}
 use Prim.Native.Nat.{ℕ}
@@ -10,7 +10,7 @@ use Rattle.walk.specs.Calls.{calls, all}
 use Rattle.frames.specs.Frames.{Framing, untouched, framing}
 use Rattle.ack.specs.Turns.{Progress, waiting, walking, finished, Turn, turn, headerOpening}
 
--- Reads one after the other, each behind what the turn before left over; at the end of the input one turn more. Behind a finished turn nothing is read.
+-- Reads one after the other, each put after what the turn before left over; at the end of the input one turn more. After a finished turn nothing is read.
 unfoldable pub turns : Format → Progress → List ℕ → List (List ℕ) → Tables → Turn
 turns format progress left [] t = turn format progress true left t
 turns format (finished walk) left (read ∷ reads) t = record { progress = finished walk; left = []; tables = t }

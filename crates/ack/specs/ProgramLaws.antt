@@ -1,4 +1,4 @@
--- program-means, of the walk: whatever the reads are, the turns end as one walk over all that was read.
+-- Laws: program-means, of the walk: whatever the reads are, the turns end as one walk over all that was read.
 use Prim.Native.Nat.{ℕ, zero, suc, _+_, _-_, _≤_, _<_}
 use mathlib.Core.Bool.{Bool, true, false}
 use mathlib.Core.List.{List, [], _∷_, _++_, append-nil, append-assoc}
@@ -57,7 +57,7 @@ line-taken walk t held future some-held whole o is some =
     calls-taken walk t (held ++ future) (rw (length-append held future) (omega arith)) o (is ∙ whole) some
     ∙ ap (λ (s : List ℕ). calls all 0 s (o .walk) (o .left)) (drop-append-le (o .taken) held future within)
 
--- So it is with a line and the plain S records behind it: the call on what is held leads as far as the calls on the whole input.
+-- So it is with a line and the plain S records after it: the call on what is held leads as far as the calls on the whole input.
 module _ (held future : List ℕ) (walk : Walk) (t : Tables) (some-held : 0 < length held) (whole : lineStep walk (firstLine held) t ≡ lineStep walk (firstLine (held ++ future)) t) where
   abbrev Carried : ℕ → Walk → Tables → Type 0
   Carried taken w u = calls all 0 (held ++ future) walk t ≡ calls all 0 (drop taken held ++ future) w u

@@ -1,4 +1,4 @@
--- program-means: for every way of cutting the input into reads, the frames of the last turn are the acknowledgement of the input.
+-- Laws: program-means: for every way of cutting the input into reads, the frames of the last turn are the acknowledgement of the input.
 use Prim.Native.Nat.{ℕ, _≤_}
 use mathlib.Core.Bool.{Bool, true, false, false≢true}
 use mathlib.Core.List.{List, [], _++_}

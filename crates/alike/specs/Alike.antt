@@ -1,4 +1,4 @@
--- Demand 3: two files of a format that are alike but for the employees.
+-- Definitions: demand 3: two files of a format that are alike but for the employees.
 use Prim.Native.Nat.{ℕ, _+_}
 use mathlib.Core.Bool.{Bool}
 use mathlib.Core.List.{List, [], _∷_, _++_, map}

@@ -1,4 +1,4 @@
--- The hypotheses of demand 3 one by one, for the paid leave file, and a test of each: two files that pass it meet the hypothesis.
+-- Definitions: the hypotheses of demand 3 one by one, for the paid leave file, and what it means that one is needed.
 use Prim.Native.Nat.{ℕ}
 use mathlib.Core.List.{List, [], _∷_, map}
 use mathlib.Core.Path.{_≡_}
@@ -31,6 +31,7 @@ others ZeroAlike = EqualBytes ∷ OwnRules ∷ RepeatAlike ∷ WagesAlike ∷ []
 others RepeatAlike = EqualBytes ∷ OwnRules ∷ ZeroAlike ∷ WagesAlike ∷ []
 others WagesAlike = EqualBytes ∷ OwnRules ∷ ZeroAlike ∷ RepeatAlike ∷ []
 
+-- This one is needed: two files meet all the others, but not it, and mean different things.
 pub record Needed (left : Hypothesis) : Type 0 where
   pub one : List ℕ
   pub other : List ℕ

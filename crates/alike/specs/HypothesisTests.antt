@@ -1,4 +1,4 @@
--- Laws: TODO
+-- Laws: a test of each hypothesis of demand 3, for the paid leave file: two files that pass it meet the hypothesis, and those that meet all are alike.
 use Prim.Native.Nat.{ℕ}
 use mathlib.Core.Bool.{Bool, true, false, _&&_, false≢true}
 use mathlib.Core.List.{List, [], _∷_, map}

@@ -1,4 +1,4 @@
--- Each hypothesis of demand 3 is needed: two files that meet all the others, but not it, can mean different things.
+-- Laws: each hypothesis of demand 3 is needed: two files that meet all the others, but not it, can mean different things.
 -- A computed example has to open the definitions that it computes with, those of crates below it too. Nothing rests on it.
 use Prim.Native.Nat.{ℕ}
 use mathlib.Core.Bool.{true}

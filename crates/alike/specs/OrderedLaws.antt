@@ -1,4 +1,5 @@
--- The order's own words and `Alike` say the same of two files; so all that is proved of files that are alike is proved of the files that the order speaks of.
+-- Laws: the order's own words and `Alike` say the same of two files;
+-- so all that is proved of files that are alike is proved of the files that the order speaks of.
 use Prim.Native.Nat.{ℕ, _+_}
 use mathlib.Core.Bool.{true}
 use mathlib.Core.List.{List, [], _∷_, _++_, map}

@@ -1,4 +1,4 @@
--- Two files that differ and are alike: more than a file and itself meets the hypotheses of demand 3.
+-- Laws: two files that differ and are alike: more than a file and itself meets the hypotheses of demand 3.
 -- A computed example has to open the definitions that it computes with, those of crates below it too. Nothing rests on it.
 use Prim.Native.Nat.{ℕ}
 use Prim.Native.String.{String}

@@ -1,4 +1,4 @@
--- The laws of quarters: which months and years an allowed one has, and that "after" is an order.
+-- Laws: which months and years an allowed quarter has, and that "after" is an order of quarters.
 use Prim.Native.Nat.{ℕ, _≤_, _<_}
 use mathlib.Core.Bool.{Bool, true, false, _&&_, _||_, false≢true, true≢false}
 use mathlib.Core.Logic.{_⊎_, inl, inr, ⊎-elim}

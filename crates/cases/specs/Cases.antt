@@ -1,5 +1,4 @@
--- The cases a to l of "Checked by hand", proved together as one table: each is a whole file, and its outcome is computed from the definitions. A
--- second table has those of a FEIN of nine zeros, a third those of the current quarter.
+-- Laws: in every case of the three tables the outcome that is computed from the definitions is the one that the paper says.
 -- A computed example has to open the definitions that it computes with, those of crates below it too. Nothing rests on it.
 use mathlib.Core.List.{map}
 use mathlib.Core.Path.{_≡_, refl}

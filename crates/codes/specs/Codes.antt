@@ -1,4 +1,4 @@
--- The codes of Appendix A, and what each stands for.
+-- Definitions: the codes of Appendix A, and what each stands for.
 use Prim.Native.Nat.{ℕ}
 use mathlib.Core.Bool.{Bool, false, _&&_, _||_, true, not}
 use mathlib.Core.List.{List, [], _∷_}
@@ -37,7 +37,7 @@ isAmong a b (code ∷ codes) = isCode a b code || isAmong a b codes
 unfoldable pub regionOf : ℕ → ℕ → Region
 regionOf a b = if isAmong a b states then State else if isAmong a b provinces then Province else Unknown
 
--- No code of the list is among those behind it.
+-- No code of the list is among those after it.
 unfoldable pub allDiffer : List (List ℕ) → Bool
 allDiffer [] = true
 allDiffer (code ∷ codes) = not (isAmong (getD code 0 0) (getD code 1 0) codes) && allDiffer codes

@@ -1,4 +1,4 @@
--- The tables of codes are those of the paper: 51 and 13 of them, none twice.
+-- Laws: the tables of codes are those of the paper: 51 and 13 of them, none twice.
 use mathlib.Core.Bool.{true}
 use mathlib.Core.List.{_++_}
 use mathlib.Core.Path.{_≡_, refl}

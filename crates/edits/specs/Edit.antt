@@ -1,4 +1,4 @@
--- An edit, and the first broken one of a list.
+-- Definitions: an edit, the first broken one of a list, and a list with none broken.
 use Prim.Native.Nat.{ℕ}
 use mathlib.Core.Bool.{Bool}
 use mathlib.Core.List.{List, [], _∷_}

@@ -1,4 +1,4 @@
--- The laws of a list of edits: the first broken one of two lists, a list with none broken, and what makes the finding the first.
+-- Laws: the first broken edit of two lists, a list with none broken, and what makes the finding the first.
 use Prim.Native.Nat.{ℕ}
 use mathlib.Core.Path.{_≡_, refl, sym, ap, _∙_}
 use mathlib.Core.List.{List, [], _∷_, _++_}

@@ -1,4 +1,4 @@
--- The field loop finds the first broken edit of the list of all fields' edits.
+-- Laws: the field loop finds the first broken edit of the list of all fields' edits.
 use Prim.Native.Nat.{ℕ, zero, suc, _+_, _<_}
 use mathlib.Core.List.{List, [], _∷_, _++_}
 use mathlib.Core.Path.{_≡_, refl, sym, ap, _∙_}
@@ -21,7 +21,7 @@ use Rattle.edits.specs.FieldParts.{field-parts}
 abbrev found : Around → List ℕ → List (List ℕ) → List ℕ → ℕ → Finding
 found a line rows rules k = firstBroken (editsOf a line (getD rows k noRow) (getD rules k 0))
 
--- Behind the first row and its rule the rest is counted from 0 again.
+-- After the first row and its rule the rest is counted from 0 again.
 behind : (a : Around) (line row : List ℕ) (rows : List (List ℕ)) (which : ℕ) (rules : List ℕ) (k : ℕ)
     → found a line (row ∷ rows) (which ∷ rules) (k + 1) ≡ found a line rows rules k
 behind a line row rows which rules k = rw (add-one k)
@@ -65,7 +65,7 @@ pub none-listed : (a : Around) (line rules : List ℕ) → fieldEdits a line [] 
 unfolding fieldEdits
 none-listed a line rules = refl
 
--- A field's edits, then those of the fields behind it.
+-- A field's edits, then those of the fields after it.
 pub fields-cons : (a : Around) (line row : List ℕ) (rows : List (List ℕ)) (which : ℕ) (rules : List ℕ)
     → fieldEdits a line (row ∷ rows) (which ∷ rules) ≡ editsOf a line row which ++ fieldEdits a line rows rules
 unfolding fieldEdits

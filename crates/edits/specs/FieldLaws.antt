@@ -1,4 +1,4 @@
--- The laws of a field among others, as a loop over a record's fields uses them.
+-- Laws: a field among others, as a loop over a record's fields uses it; and a rule is found again from its number.
 use Prim.Native.Nat.{ℕ}
 use mathlib.Core.Path.{_≡_, refl}
 use mathlib.Core.List.{List}

@@ -1,4 +1,4 @@
--- The field as it is tested, the class test and then the rules behind it, is the field's list of edits.
+-- Laws: the field as it is tested, the class test and then the rules after it, is the field's list of edits.
 use Prim.Native.Nat.{ℕ}
 use mathlib.Core.Path.{_≡_, refl, sym, ap, _∙_}
 use mathlib.Core.Bool.{Bool, true, false}
@@ -41,7 +41,7 @@ cease-rules true false date first e = rw (e, or-fine)
 cease-rules false true date first e = rw e
 cease-rules false false date first e = rw e
 
--- The rules of a date behind its digits: by its reading, then of the columns.
+-- The rules of a date after its digits: by its reading, then of the columns.
 cease-reading : (final : Bool) (first : ℕ) (r : Reading) → ceaseIn final first r ≡ orElse (findingIn r) (ceaseRules final (valueOf r) first)
 cease-reading final first (value date) = refl
 cease-reading final first (refused column number) = refl

@@ -1,4 +1,4 @@
--- The edits of fields in two lines that agree in the fields' columns.
+-- Laws: the edits of fields in two lines that agree in the fields' columns.
 use Prim.Native.Nat.{ℕ, _+_, _-_}
 use mathlib.Core.List.{List, [], _∷_}
 use mathlib.Core.Path.{_≡_}

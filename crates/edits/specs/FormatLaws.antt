@@ -1,4 +1,4 @@
--- What holds of an opening that is not refused, when one is not, and that a format which is PFML by its test is PFML.
+-- Laws: what holds of an opening that is not refused, when one is not, and that a format which is PFML by its test is PFML.
 use mathlib.Core.Bool.{true, false≢true}
 use mathlib.Core.Path.{_≡_, refl}
 use Rattle.laws.specs.ChoiceLaws.{both-hold}

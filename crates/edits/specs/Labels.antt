@@ -1,4 +1,4 @@
--- The label of an edit: that what the edit finds is what its label says.
+-- Definitions: the label of an edit: that what the edit finds is what its label says; and the first broken edit of a list, told by its label.
 use Prim.Native.Nat.{ℕ, _≤_}
 use mathlib.Core.Bool.{Bool, false, _||_}
 use mathlib.Core.List.{List, [], _∷_, _++_}

@@ -1,4 +1,4 @@
--- The rules of fields by their numbers, and what stands around a record's fields.
+-- Definitions: the rules of fields by their numbers, and what stands around a record's fields.
 use Prim.Native.Nat.{ℕ}
 use mathlib.Core.List.{List, [], _∷_}
 use lib.ListN.{getD}

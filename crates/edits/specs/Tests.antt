@@ -1,4 +1,5 @@
 -- Follows the code; need not be believed. A field as it is tested: its class test, its own rules, its context, in this order; and the first broken field.
+-- Then how wide a field has to be for the test to find what the field's list of edits finds.
 use Prim.Native.Nat.{ℕ, _-_, _<_, _≤_}
 use mathlib.Core.Bool.{Bool}
 use mathlib.Core.List.{List}
@@ -41,7 +42,7 @@ unfoldable pub thirdQuarterTest : Landmarks → List ℕ → ℕ → Finding
 thirdQuarterTest landmarks line first =
     if eqb (valueIn line (landmarks .«period_first») (landmarks .«period_last»)) 9 then findingIn (flagIn line first) else fine
 
--- The own rules behind the class test, as the readers of the field crates find them.
+-- The own rules after the class test, as the readers of the field crates find them.
 abbrev pub ownRest : Landmarks → List ℕ → Class → List ℕ → ℕ → ℕ → Finding
 ownRest landmarks code Ignored line first last = fine
 ownRest landmarks code RecordLetter line first last = fine
@@ -63,7 +64,7 @@ ownRest landmarks code EmployerFein line first last = findingIn (feinIn line fir
 ownRest landmarks code IdentityNumber line first last = findingIn (identityIn line first last)
 ownRest landmarks code CeaseDate line first last = ceaseTest landmarks line first last
 
--- The rules of a field behind its class test: its own, then those of the context.
+-- The rules of a field after its class test: its own, then those of the context.
 unfoldable pub rulesTest : Around → List ℕ → Class → Rule → ℕ → ℕ → Finding
 rulesTest a line class which first last =
     orElse (ownRest (a .landmarks) (a .code) class line first last) (firstBroken (withContext which (a .landmarks) (a .here) (a .seen) line first last))
@@ -84,7 +85,7 @@ fieldsTest a line rows rules = firstOf (fieldAt a line rows rules) 0 (length row
 abbrev pub Readable : ℕ → ℕ → Type 0
 Readable first last = (first - 1 < last) × (widthOf first last ≤ 19)
 
--- What a class asks of its columns: that they may read as a number, where a rule behind the class test looks at the value.
+-- What a class asks of its columns: that they may read as a number, where a rule after the class test looks at the value.
 abbrev pub Wide : Class → ℕ → ℕ → Type 0
 Wide TaxYear first last = Readable first last
 Wide EmployerFein first last = Readable first last

@@ -1,4 +1,4 @@
--- The laws of the class test.
+-- Laws: the class test; and a class is found again from its number.
 use Prim.Native.Nat.{ℕ, _-_}
 use mathlib.Core.Path.{_≡_, refl}
 use mathlib.Core.List.{List}
@@ -24,7 +24,7 @@ module _ (class : Class) (line : List ℕ) (first last : ℕ) where
   unfolding classTest
   lead-breaks column number hit = rw hit
 
-  -- Behind a text that passes as a whole, the class test is that of the columns.
+  -- After a text that passes as a whole, the class test is that of the columns.
   pub lead-passes : (allowed : Allowed) (at : ℕ) → leadTest class line first last ≡ fine → allowed ≡ allowedIn class line first last
       → at ≡ first - 1 → classTest class line first last ≡ firstOf (allowedTest allowed line) at (last - at)
   unfolding classTest

@@ -1,4 +1,4 @@
--- The classes of fields, and their numbers in a list of fields. What each asks is `own` (crate `edits`).
+-- Definitions: the classes of fields, and their numbers in a list of fields. What each asks is `own` (crate `edits`).
 use Prim.Native.Nat.{ℕ}
 use mathlib.Core.List.{List, [], _∷_}
 use lib.ListN.{getD}

@@ -1,4 +1,4 @@
--- The first byte of an acknowledgement tells acceptance from refusal: 01 and 00 begin with 0, FF with F.
+-- Laws: the first byte of an acknowledgement tells acceptance from refusal: 01 and 00 begin with 0, FF with F.
 use mathlib.Core.List.{List, [], _∷_}
 use mathlib.Core.Path.{_≡_, refl, sym, ap, _∙_}
 use native.Mathlib.Omega.{arith}

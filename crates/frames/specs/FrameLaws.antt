@@ -1,4 +1,4 @@
--- The laws of frames: how many bytes they are, how a loop writes them, and what a call writes for a walk that stands for a file's meaning.
+-- Laws: how many bytes frames are, how a loop writes them, and what a call writes for a walk that stands for a file's meaning.
 use Prim.Native.Nat.{ℕ, _+_, _*_, _^_, _≤_, _<_}
 use mathlib.Core.Bool.{true, false, false≢true}
 use mathlib.Core.List.{List, [], _∷_, _++_, append-assoc, append-nil}

@@ -1,4 +1,4 @@
--- The frames of an acknowledgement. "Output: lines of hexadecimal in capitals, one frame a line, LF, numbers big-endian."
+-- Definitions: the frames of an acknowledgement. "Output: lines of hexadecimal in capitals, one frame a line, LF, numbers big-endian."
 use Prim.Native.Nat.{ℕ, _+_, _*_}
 use mathlib.Core.Bool.{Bool, true, false}
 use mathlib.Core.List.{List, [], _∷_, _++_}

@@ -1,4 +1,4 @@
--- Follows the code; need not be believed. Bytes over a part of a buffer, and the laws of writing one part behind the other.
+-- Follows the code; need not be believed. Bytes over a part of a buffer, and the laws of writing one part after the other; a frame of three numbers.
 use Prim.Native.Nat.{ℕ, suc, _+_, _≤_, _<_}
 use mathlib.Core.List.{List, [], _∷_, _++_, append-assoc, append-nil}
 use mathlib.Core.Path.{_≡_, ap, _∙_}
@@ -32,7 +32,7 @@ module _ (out : List ℕ) where
   unfolding pasted
   pasted-length at bytes h = simp (length-append, length-take, length-drop) (omega arith)
 
-  -- One part behind the other.
+  -- One part after the other.
   pasted-next : (at n : ℕ) (a b : List ℕ) → length a ≡ n → at ≤ length out → pasted (at + n) b (pasted at a out) ≡ pasted at (a ++ b) out
   unfolding pasted
   pasted-next at n a b e h =
@@ -43,7 +43,7 @@ module _ (out : List ℕ) where
       rw (← width, drop-append-add, drop-drop, length-append, e, ← add-assoc) in
       rw (take-at front rest (at + n) width, behind, append-assoc (take at out) a b)
 
-  -- As the code comes by it: behind what stands at the front, and from one buffer to the next.
+  -- As the code comes by it: after what stands at the front, and from one buffer to the next.
   pub pasted-behind : (n : ℕ) (a b : List ℕ) → length a ≡ n → pasted n b (pasted 0 a out) ≡ pasted 0 (a ++ b) out
   pasted-behind n a b e = rw (← zero-add n) (pasted-next 0 n a b e (omega arith))
 

@@ -1,4 +1,4 @@
--- A choice by a test.
+-- Definitions: a choice by a test.
 use mathlib.Core.Bool.{Bool, true, false}
 
 infix 1 if_then_else_

@@ -1,4 +1,4 @@
--- Laws: of two tests that both hold each holds, and a number lies between two bounds.
+-- Laws: of two tests that both hold each holds, and a number that passes two tests lies within their bounds.
 use Prim.Native.Nat.{ℕ, _≤_}
 use mathlib.Core.Bool.{Bool, true, false, _&&_, false≢true}
 use mathlib.Core.Path.{_≡_, refl}

@@ -1,4 +1,4 @@
--- What an edit finds, and what a field reads as, in the paper's own numbers.
+-- Definitions: what an edit finds, what a field reads as, in the paper's own numbers, and the first broken one of some edits.
 use Prim.Native.Nat.{ℕ, zero, suc, _+_, _<_}
 use mathlib.Core.Path.{_≡_}
 

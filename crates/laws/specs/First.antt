@@ -1,4 +1,4 @@
--- The laws of `firstOf`: what a loop over the edits i to end uses, and what makes its answer the first.
+-- Laws: `firstOf`: what a loop over the edits i to end uses, and what makes its answer the first.
 use Prim.Native.Nat.{ℕ, zero, suc, _+_, _-_, _<_, _≤_}
 use mathlib.Core.Path.{_≡_, refl, sym, _∙_}
 use native.Mathlib.Nat.{add-zero}

@@ -1,4 +1,5 @@
--- The lines of a file with some of their characters changed: no line moves, and files whose changed lines make the same bytes have the same changed lines.
+-- Laws: the lines of a file with some of their characters changed: no line moves,
+-- and files whose changed lines make the same bytes have the same changed lines.
 use Prim.Native.Nat.{ℕ, zero, suc, _-_, _<_}
 use mathlib.Core.Bool.{Bool, true, false, _||_}
 use mathlib.Core.List.{List, [], _∷_, _++_, map, map-append, append-assoc}

@@ -1,4 +1,4 @@
--- Columns that are hidden on the lines of a file, told by places of the file, and two files of equal bytes elsewhere.
+-- Definitions: columns that are hidden on the lines of a file, told by places of the file; two files of equal bytes elsewhere; and changes of lines.
 use Prim.Native.Nat.{ℕ, _+_, _-_, _≤_}
 use mathlib.Core.Bool.{Bool, true, false}
 use mathlib.Core.List.{List, [], _∷_}

@@ -1,4 +1,4 @@
--- A line that is made: characters, an end, and any bytes behind.
+-- Laws: a line that is made: characters, an end, and any bytes after it.
 use Prim.Native.Nat.{ℕ, zero, suc, _+_, _<_, _≤_}
 use mathlib.Core.Bool.{Bool, true, false, _||_}
 use mathlib.Core.List.{List, [], _∷_, _++_}

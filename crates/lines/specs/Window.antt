@@ -1,4 +1,5 @@
--- Only the first n + 2 bytes matter to a line that is to have n characters, 292 for 290: a call that is lent them answers as if it were lent all that remains.
+-- Laws: only the first n + 2 bytes matter to a line that is to have n characters, 292 for 290:
+-- a call that is lent them answers as if it were lent all that remains.
 use Prim.Native.Nat.{ℕ, zero, suc, _+_, _-_, _≤_, _<_}
 use mathlib.Core.Bool.{Bool, true, false}
 use mathlib.Core.List.{List, [], _∷_}

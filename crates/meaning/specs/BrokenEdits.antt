@@ -1,4 +1,4 @@
--- Definitions: that no edit of a file is broken, and that a notice is the first broken one in the stated order.
+-- Definitions: that no edit of a file is broken, and that an answer is the first broken one in the stated order.
 use mathlib.Core.List.{List, [], _∷_, _++_}
 use mathlib.Core.Path.{_≡_}
 use Rattle.laws.specs.Finding.{fine, broken}

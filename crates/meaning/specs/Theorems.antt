@@ -1,4 +1,4 @@
--- accepted-iff and first-is-first, of a whole file.
+-- Laws: accepted-iff and first-is-first, of a whole file.
 use Prim.Native.Nat.{ℕ, _+_}
 use mathlib.Core.List.{List, [], _∷_, _++_, map}
 use mathlib.Core.Path.{_≡_, refl, sym, ap}
@@ -37,7 +37,7 @@ unfolding firstOfFile
 none-found [] none = refl
 none-found (e ∷ edits) none = rw (none .0) (none-found edits (none .1))
 
--- Where an edit and those behind it find nothing, each finds nothing.
+-- Where an edit and those after it find nothing, each finds nothing.
 both-nothing : (line : ℕ) (f : Finding) (next : FileFinding) → orFound (foundOn line f) next ≡ nothing → (f ≡ fine) × (next ≡ nothing)
 both-nothing line fine next e = (refl, e)
 both-nothing line (broken column number) next e = absurd (not-found line column number (sym e))
@@ -70,7 +70,7 @@ file-labelled room held p (line ∷ lines) =
 
 -- ---- the first
 
--- The first edit is broken, or it is one behind it.
+-- The first edit is broken, or it is one after it.
 here-first : (this : LineEdit) (edits : List LineEdit) (says : Notice) (f : Finding) → this .edit .finds ≡ f
     → orFound (foundOn (this .line) f) (firstOfFile edits) ≡ found (says .line) (says .column) (says .number)
     → (this .edit .finds ≡ broken (says .column) (says .number) → ByLabel (this .edit) (says .column) (says .number))

@@ -1,4 +1,4 @@
--- Each number of the paper's table has one reason and each reason one number, so that a promise in numbers leaves room for one answer.
+-- Laws: each number of the paper's table has one reason and each reason one number, so that a promise in numbers leaves room for one answer.
 use Prim.Native.Nat.{ℕ, _<_}
 use mathlib.Core.Bool.{Bool, true}
 use mathlib.Core.List.{List, [], _∷_}
@@ -93,7 +93,7 @@ same-number a b e = sym (found-again a) ∙ ap reasonOf e ∙ found-again b
 pub has-number : {reason : Reason} {n : ℕ} → n ≡ numberOf reason → reason ≡ reasonOf n
 has-number {reason} e = sym (ap reasonOf e ∙ found-again reason)
 
--- That n is no number of the reasons in a list, one fact after the other, behind what is known before.
+-- That n is no number of the reasons in a list, one fact after the other, following what is known before.
 abbrev NoneHas : ℕ → Type 0 → List Reason → Type 0
 NoneHas n known [] = known
 NoneHas n known (reason ∷ rest) = NoneHas n (known × (n ≡ numberOf reason → ⊥)) rest

@@ -1,4 +1,4 @@
--- The paper's number of each reason, and what an edit finds in the paper's numbers.
+-- Definitions: the paper's number of each reason, the numbers of its table, and what an edit finds in the paper's numbers.
 use Prim.Native.Nat.{ℕ, zero, suc}
 use mathlib.Core.Bool.{Bool}
 use mathlib.Core.List.{List, [], _∷_, _++_}

@@ -1,4 +1,4 @@
--- The laws of the verdict on a line, for every format: those of a lawful shape, for the format that the context holds.
+-- Laws: every format is lawful; and the verdict on a line, for every format: the laws of a lawful shape, for the format that the context holds.
 use Prim.Native.Nat.{ℕ, _≤_}
 use mathlib.Core.Bool.{Bool, true, false}
 use mathlib.Core.List.{List}

@@ -1,4 +1,4 @@
--- The only dispatch in specs: the shape of each format, and that it is lawful.
+-- Definitions: the shape of each format. The only dispatch in specs.
 use Rattle.edits.specs.declared.format.Format.{Format}
 use Rattle.edits.specs.declared.format.Format.the-variants.{Pfml, Unknown}
 use Rattle.shape.specs.NoFormat.{noShape}

@@ -1,5 +1,5 @@
--- The verdict on a line among others, in every format: what it is made of, what holds where it passes or is refused, and that neither the bytes behind
--- the line nor the part of them that is lent change it.
+-- Laws: the verdict on a line among others, in every format: what it is made of, what holds where it passes or is refused,
+-- and that neither the bytes after the line nor the part of them that is lent change it.
 use Prim.Native.Nat.{ℕ, _≤_}
 use mathlib.Core.Bool.{Bool, true, false}
 use mathlib.Core.List.{List}
@@ -62,7 +62,7 @@ module _ (s : Shape) (l : Lawful s) (here : Context) (seen : Seen) (line : Line)
     pub passed-bounded-by : Bounded s said
     passed-bounded-by = subst (Bounded s) says (l .bounded (capitals (line .text)))
 
-    -- and no clause of 72 comes to hold behind it.
+    -- and no clause of 72 comes to hold after it.
     pub quarter-kept-by : s .quarterUnfit (here .phase) (here .held) (here .filed) ≡ false
         → s .quarterUnfit (phaseAfter said (here .phase)) (here .held) (filedAfter said (here .filed)) ≡ false
     quarter-kept-by fit =

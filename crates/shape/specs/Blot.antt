@@ -1,4 +1,5 @@
--- A line with its hidden columns blotted out is a line of the same record and shows all other columns, in every format; two lines with equal blots are alike.
+-- Laws: a line with its hidden columns blotted out is a line of the same record and shows all other columns, in every format;
+-- two lines with equal blots are alike.
 use Prim.Native.Nat.{ℕ, zero, suc, _+_, _≤_, _<_, min}
 use mathlib.Core.Bool.{Bool, true, false, _&&_}
 use mathlib.Core.List.{List, [], _∷_}

@@ -1,4 +1,4 @@
--- What the input's end finds, phase by phase, and that it is told by its label.
+-- Laws: what the input's end finds, phase by phase, and that it is told by its label.
 use mathlib.Core.Path.{_≡_, refl}
 use Rattle.laws.specs.Finding.{Finding, fine, broken}
 use Rattle.chars.specs.ColumnLaws.{unless-labelled}

@@ -1,4 +1,4 @@
--- Demand 3, one line, in every format: two lines that are alike but in hidden columns break the same edit.
+-- Laws: demand 3, one line, in every format: two lines that are alike but in hidden columns break the same edit.
 use Prim.Native.Nat.{ℕ, zero, suc, _+_}
 use mathlib.Core.Bool.{Bool, true, false, _&&_, false≢true}
 use mathlib.Core.List.{List}

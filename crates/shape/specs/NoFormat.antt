@@ -1,4 +1,5 @@
--- What a number that names no format stands for: a walk of it is never opened. Every line is one of no record, and every bound is that of document 01.
+-- Definitions: what a number that names no format stands for: a walk of it is never opened.
+-- Every line is one of no record, and every bound is that of document 01.
 use mathlib.Core.Bool.{false, _&&_}
 use mathlib.Core.List.{[], _∷_}
 use lib.Dec.{leb}

@@ -1,4 +1,4 @@
--- accepted-iff and first-of-line, of one line, in every format; and the verdict part by part.
+-- Laws: accepted-iff and first-of-line, of one line, in every format; and the verdict part by part.
 use Prim.Native.Nat.{ℕ, _≤_}
 use mathlib.Core.List.{List}
 use mathlib.Core.Path.{_≡_, refl, sym, ap, _∙_}

@@ -1,4 +1,4 @@
--- What a state that is not unfit is bounded by, and the other way: bounds that make a state fit.
+-- Laws: what a state that is not unfit is bounded by, and the other way: bounds that make a state fit.
 use Prim.Native.Nat.{ℕ, _*_, _≤_, _<_}
 use mathlib.Core.Bool.{Bool, true, false, not, _&&_, _||_, false≢true}
 use mathlib.Core.Path.{_≡_, refl, sym, _∙_}

@@ -1,4 +1,4 @@
--- A state put into words is read back as it was; words that tell no walk are unfit for every call.
+-- Laws: a state put into words is read back as it was; words that tell no walk are unfit for every call.
 use Prim.Native.Nat.{ℕ, _≤_, min}
 use mathlib.Core.Bool.{Bool, true, false, not-eq-not}
 use mathlib.Core.List.{List, _++_, append-assoc}
@@ -21,7 +21,8 @@ use Rattle.state.specs.declared.Stage.{Stage}
 use Rattle.state.specs.declared.Stage.the-variants.{Reading, Accepted, Refused}
 use Rattle.state.specs.declared.State.{State}
 use Rattle.state_words.specs.Reading.{nowhere-told, unnamed-told, few-told, none-told, all-told}
-use Rattle.state_words.specs.Words.{wordCount, standingWords, numberWords, putWords, mostLine, mostColumn, HeldStanding, Held, flagWord, flagIn, standingIn, unfitWalk, walkTold, walkIn, Unknown, few, nowhere, unnamed}
+use Rattle.state_words.specs.Words.{wordCount, standingWords, numberWords, putWords, mostLine, mostColumn, HeldStanding, Held, flagWord, flagIn, standingIn, unfitWalk, walkTold, walkIn}
+use Rattle.state_words.specs.UnknownWords.{Unknown, few, nowhere, unnamed}
 use Rattle.state_words.specs.WordsWritten.{firstFour, four, enough}
 
 -- ---- there and back

@@ -1,9 +1,8 @@
--- The state of a walk as 27 words of 64 bits that a caller lends, and the walk that any words tell.
-use Prim.Native.Nat.{ℕ, _≤_, min, _<_}
-use mathlib.Core.Bool.{Bool, not, false}
+-- Definitions: the state of a walk as 27 words of 64 bits that a caller lends, and the walk that any words tell.
+use Prim.Native.Nat.{ℕ, _≤_, min}
+use mathlib.Core.Bool.{Bool, not}
 use mathlib.Core.List.{List, [], _∷_, _++_}
 use mathlib.Core.Option.{Option, none, some}
-use mathlib.Core.Path.{_≡_}
 use lib.Dec.{ltb, eqb}
 use lib.ListN.{length, getD, drop}
 use Rattle.laws.specs.Choice.{if_then_else_}
@@ -36,7 +35,7 @@ abbrev pub flagWord : Bool → ℕ
 flagWord flag = if flag then 1 else 0
 
 -- Then lines read; the quarter held, and A's; the open E's FEIN, its flag that S follow, S count, cents; the file's S count, employers, cents; ids in
--- use. Behind them the format's number, and what PFML has none of: the open E's second sum, its other records, the nearest of them, whether a note is among
+-- use. After them the format's number, and what PFML has none of: the open E's second sum, its other records, the nearest of them, whether a note is among
 -- them, and its account number; and the file's second sum, other records and notes.
 abbrev pub numberWords : Walk → List ℕ
 numberWords walk =
@@ -54,7 +53,7 @@ numberWords walk =
 abbrev pub wordsOf : Walk → List ℕ
 wordsOf walk = standingWords (walk .standing) ++ numberWords walk
 
--- They stand at the front of what is lent, and what lies behind stays. Where there is no room for all of them, none is written.
+-- They stand at the front of what is lent, and what lies after them stays. Where there is no room for all of them, none is written.
 unfoldable pub putWords : Walk → List ℕ → List ℕ
 putWords walk words = if ltb (length words) wordCount then words else wordsOf walk ++ drop wordCount words
 
@@ -159,9 +158,3 @@ walkIn words = if ltb (length words) wordCount then unfitWalk else walkTold word
 abbrev pub toldOf : Told → Option Standing
 toldOf (Known stage) = some (standingOf stage)
 toldOf Unknown = none
-
--- They are too few; or the first is none of the seven; or it says refused, and the number is none of the paper's.
-pub data Unknown (words : List ℕ) : Type 0 where
-  few : length words < wordCount → Unknown words
-  nowhere : 6 < word words 0 → Unknown words
-  unnamed : word words 0 ≡ 6 → isListed (word words 1) ≡ false → Unknown words

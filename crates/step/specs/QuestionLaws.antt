@@ -1,4 +1,4 @@
--- What is looked up for a line is what it asks.
+-- Laws: what is looked up for a line is what it asks.
 use Prim.Native.Nat.{ℕ, _<_}
 use mathlib.Core.Bool.{Bool, true, false, _&&_}
 use mathlib.Core.List.{List}

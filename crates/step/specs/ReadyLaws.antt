@@ -1,4 +1,4 @@
--- A record that passes in a state that is not unfit is ready to be taken up: no sum wraps.
+-- Laws: a record that passes in a state that is not unfit is ready to be taken up: no sum wraps.
 use Prim.Native.Nat.{ℕ, _+_, _*_, _≤_, _<_, _^_, min}
 use mathlib.Core.Bool.{Bool, true, false}
 use mathlib.Core.Logic.{inl, inr}

@@ -1,4 +1,4 @@
--- A table of fixed length: the entries that it has, and behind them those at rest.
+-- Definitions: a table of fixed length: the entries that it has, and after them those at rest.
 use Prim.Native.Nat.{ℕ, _-_}
 use mathlib.Core.List.{List, _++_}
 use lib.ListN.{length, replicate}

@@ -1,4 +1,4 @@
--- Laws: how long a padded table is, and what is taken from it, put into it and wiped of it.
+-- Laws: how long a table of fixed length is, what its entries are, and what it is with one entry more or with all of them zeroed.
 use Prim.Native.Nat.{ℕ, suc, _+_, _-_, _≤_, _<_}
 use mathlib.Core.List.{List, [], _∷_, _++_, append-assoc}
 use mathlib.Core.Path.{_≡_}

@@ -1,4 +1,4 @@
--- The laws of text, of patterns and of addresses.
+-- Laws: text, patterns and addresses.
 use Prim.Native.Nat.{ℕ, _+_, _-_, _<_, _≤_, zero, suc}
 use mathlib.Core.Path.{_≡_, refl, sym, ap, _∙_}
 use mathlib.Core.Bool.{Bool, true, false, not, _||_}

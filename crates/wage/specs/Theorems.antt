@@ -1,4 +1,4 @@
--- Calls through words are the calls of the walk: what a call leaves, the words tell to the next. Words that tell no walk are answered 72, and
+-- Laws: calls through words are the calls of the walk: what a call leaves, the words tell to the next. Words that tell no walk are answered 72, and
 -- nothing is changed; those that tell a walk refused with 70 are answered 70 again, and nothing is touched.
 use Prim.Native.Nat.{ℕ, _≤_}
 use mathlib.Core.Bool.{Bool, true, false, _||_, false≢true}
@@ -30,7 +30,8 @@ use Rattle.state.specs.Unfit.{unfit}
 use Rattle.state.specs.UnfitLaws.{edit-not-opening, edit-not-71, edit-not-72}
 use Rattle.state.specs.Walks.{Standing, reading, accepted, refused, Walk}
 use Rattle.state_words.specs.Theorems.{unknown-unfit}
-use Rattle.state_words.specs.Words.{wordCount, wordsOf, putWords, walkIn, Unknown}
+use Rattle.state_words.specs.Words.{wordCount, wordsOf, putWords, walkIn}
+use Rattle.state_words.specs.UnknownWords.{Unknown}
 use Rattle.state_words.specs.WordsWritten.{words-length, enough}
 use Rattle.write.specs.Writing.{noTables, refusalOf, writing}
 use Rattle.write.specs.WritingLaws.{unfit-first}

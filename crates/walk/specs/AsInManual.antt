@@ -1,4 +1,5 @@
--- Definitions: what the manual says of the calls: "'accepted' means the published edits found nothing, with each employer's totals below it; ..".
+-- Definitions: the sentence in the manual, of what a caller has at the end: "'accepted' means the published edits found nothing,
+-- with each employer's totals below it; 'refused' gives the first line, column and reason."
 use Prim.Native.Nat.{ℕ}
 use mathlib.Core.List.{List}
 use mathlib.Core.Path.{_≡_}

@@ -1,4 +1,4 @@
--- The state and the tables that the records before leave, as functions of them, and what holds of records that were taken.
+-- Definitions: the state and the tables that the records before leave, as functions of them.
 use mathlib.Core.List.{List}
 use lib.ListN.{length}
 use Rattle.edits.specs.declared.Opening.{Opening}
@@ -22,7 +22,7 @@ walkIn standing held p =
       used = length (idsUnder p);
     }
 
--- The state after these records, and at the accepted end behind them.
+-- The state after these records, and at the accepted end after them.
 abbrev pub walkAt : Opening → List Said → Walk
 walkAt held p = walkIn (reading (phaseIn p)) held p
 

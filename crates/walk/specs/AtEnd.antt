@@ -1,4 +1,4 @@
--- The records of an accepted file were all taken, and the last of them is F.
+-- Laws: the records of an accepted file were all taken, and the last of them is F.
 use Prim.Native.Nat.{ℕ, _+_, _≤_}
 use mathlib.Core.Bool.{true}
 use mathlib.Core.List.{List, [], _∷_}

@@ -1,5 +1,5 @@
--- One call: lent a part of the bytes it answers as if lent all (pieces-are-whole); on a walk that nobody altered it is never unfit, and answers
--- what the records before say.
+-- Laws: one call: lent a part of the bytes it answers as if lent all (pieces-are-whole);
+-- on a walk that nobody altered it is never unfit, and answers what the records before say.
 use Prim.Native.Nat.{ℕ, _≤_}
 use mathlib.Core.Bool.{Bool, true, false, false≢true}
 use mathlib.Core.List.{List}

@@ -1,4 +1,4 @@
--- Definitions: calls one after the other, each on the state and the tables that the last one left, as the theorems on single calls speak of them.
+-- Definitions: calls in a row, each on the state and the tables that the last one left: any calls, line calls that are all taken, and the calls of a run.
 use Prim.Native.Nat.{ℕ, zero, suc, _+_, _<_}
 use mathlib.Core.List.{List, [], _∷_}
 use mathlib.Core.Path.{_≡_}

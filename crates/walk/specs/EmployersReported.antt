@@ -1,5 +1,5 @@
--- employers-are: where a walk ends accepted, the employers reported are those of the file's E records, with the counts and wage totals of the S
--- records under each.
+-- Laws: employers-are: where a walk ends accepted, the employers reported are those of the file's E records,
+-- with the counts and wage totals of the S records under each.
 use Prim.Native.Nat.{ℕ}
 use mathlib.Core.Bool.{Bool, true, false}
 use mathlib.Core.List.{List, []}

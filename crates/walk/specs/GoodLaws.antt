@@ -1,4 +1,4 @@
--- Records that were taken stay good with one record more: nothing exceeds its bound, so no sum wraps and no state becomes unfit.
+-- Laws: records that were taken are good, and stay so with one record more: nothing exceeds its bound, so no sum wraps and no state becomes unfit.
 use Prim.Native.Nat.{ℕ, _+_, _≤_, _<_, _*_}
 use mathlib.Core.Bool.{Bool, true, false}
 use mathlib.Core.List.{List, [], _∷_, _++_}
@@ -98,7 +98,7 @@ e-place : (p : List Said) → (phaseIn p ≡ AfterA) ⊎ (phaseIn p ≡ AfterT) 
 e-place p (inl a) = (rw a, rw a)
 e-place p (inr t) = (rw t, rw t)
 
--- What holds of any record behind those taken: its quarter and the format's own numbers are not unfit.
+-- What holds of any record after those taken: its quarter and the format's own numbers are not unfit.
 pub record Kept (room : Room) (held : Opening) (p : List Said) (said : Said) : Type 0 where
   pub quarter : shapeOf (held .format) .quarterUnfit (phaseAfter said (phaseIn p)) held (filedAfter said (filedIn p)) ≡ false
   pub more : shapeOf (held .format) .unfitMore (room .ids) (length (idsWith said (idsUnder p))) (stands EOpen (phaseAfter said (phaseIn p))) (totalsAfter said (totalsIn p))

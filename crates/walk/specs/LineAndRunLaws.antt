@@ -1,4 +1,4 @@
--- A line and the plain S records behind it are calls, one for each line.
+-- Laws: a line and the plain S records after it are calls, one for each line.
 use Prim.Native.Nat.{ℕ, _+_, _≤_, _<_}
 use mathlib.Core.Bool.{Bool, true, false}
 use mathlib.Core.List.{List}

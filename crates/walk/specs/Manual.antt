@@ -1,5 +1,4 @@
--- The sentence in the manual as one theorem: "'accepted' means the published edits found nothing, with each employer's totals below it; 'refused' gives the
--- first line, column and reason." Of the calls, whatever each is lent, and of a whole file in one slice.
+-- Laws: the sentence in the manual as one theorem: of the calls, whatever each is lent, and of a whole file in one slice.
 use Prim.Native.Nat.{ℕ}
 use mathlib.Core.Bool.{true}
 use mathlib.Core.List.{List, []}

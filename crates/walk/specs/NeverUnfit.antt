@@ -1,4 +1,4 @@
--- never-unfit: a walk from an opening whose state and tables nobody altered never answers 72.
+-- Laws: never-unfit: a walk from an opening whose state and tables nobody altered never answers 72.
 use Prim.Native.Nat.{ℕ, _+_}
 use mathlib.Core.Bool.{Bool, true, false, false≢true}
 use mathlib.Core.List.{List, [], _∷_}
@@ -41,7 +41,7 @@ use Rattle.walk.specs.StepLaws.{entries-within}
 use Rattle.walk.specs.TablesAt.{opened-at}
 use Rattle.walk.specs.CallsInRow.{Call, callStep, afterCalls, lineCall, endCall}
 
--- Where a walk that nobody altered stands: behind records that were taken; accepted; or refused.
+-- Where a walk that nobody altered stands: after records that were taken; accepted; or refused.
 pub record Reads (room : Room) (held : Opening) (o : Out) : Type 0 where
   pub allowed : mayOpen held ≡ true
   pub p : List Said

@@ -1,4 +1,4 @@
--- A run is line calls: a line and the plain S records behind it, taken at once, are as many line calls one after the other.
+-- Laws: a run is line calls: a line and the plain S records after it, taken at once, are as many line calls one after the other.
 use Prim.Native.Nat.{ℕ, suc, _<_}
 use mathlib.Core.Bool.{Bool, true, false}
 use mathlib.Core.List.{List}

@@ -1,4 +1,4 @@
--- One call on a walk that nobody altered: it answers as the records before say, and leaves what the records with this one more leave.
+-- Laws: one call on a walk that nobody altered: it answers as the records before say, and leaves what the records with this one more leave.
 use Prim.Native.Nat.{ℕ, _+_, _-_, _≤_, _<_}
 use mathlib.Core.Bool.{Bool, true, false, false≢true}
 use mathlib.Core.List.{List, [], _∷_, _++_}

@@ -1,4 +1,4 @@
--- tables-at: what the tables hold after any lines that were taken, in a walk whose state and tables nobody altered.
+-- Laws: tables-at: what the tables hold after any lines that were taken, in a walk whose state and tables nobody altered.
 use Prim.Native.Nat.{ℕ}
 use mathlib.Core.Bool.{true}
 use mathlib.Core.List.{List, [], _∷_}

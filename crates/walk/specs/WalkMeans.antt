@@ -1,4 +1,4 @@
--- walk-means: for every file, quarter, table lengths and lending, the calls answer and leave what the file means.
+-- Laws: walk-means: for every file, quarter, table lengths and lending, the calls answer and leave what the file means.
 use Prim.Native.Nat.{ℕ, zero, suc, _+_, _-_, _≤_}
 use mathlib.Core.Bool.{Bool, true, false}
 use mathlib.Core.List.{List, [], _∷_}
@@ -117,7 +117,7 @@ module _ (room : Room) (held : Opening) (allowed : mayOpen held ≡ true) where
       ∙ ap (λ (v : Judged). carried (byVerdict (walkAt held p) v) (tablesAt room p)) e
       ∙ rw (after-said held p said, wrote room held p g said fits)
 
-  -- No clause of 72 comes to hold behind a record that passes.
+  -- No clause of 72 comes to hold after a record that passes.
   kept : (p : List Said) → Good room held p → (line : Line) (taken : ℕ) (said : Said) → judgeAt room held p line ≡ passed taken said → Kept room held p said
   kept p g line taken said e =
       let here = contextAt room held p in

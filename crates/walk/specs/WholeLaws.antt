@@ -1,4 +1,4 @@
--- The calls of a loop over a whole file: each is lent all that remains.
+-- Laws: the calls of a loop over a whole file: each is lent all that remains.
 use Prim.Native.Nat.{ℕ, zero, suc, _+_, _-_, _≤_, _<_}
 use mathlib.Core.Bool.{Bool, true, false}
 use mathlib.Core.List.{List, [], _∷_}
