@@ -1,5 +1,6 @@
 -- Definitions: the cases a to l of "Checked by hand" as one table: each is a whole file, with what the paper says of it.
 -- A second table has those of a FEIN of nine zeros, a third those of the current quarter.
+-- A computed example has to open the definitions that it computes with, those of crates below it too. Nothing rests on it.
 use Prim.Native.Nat.{ℕ}
 use Prim.Native.String.{String}
 use mathlib.Core.List.{List, [], _∷_, _++_}

@@ -1,8 +1,7 @@
 -- Laws: in every case of the three tables the outcome that is computed from the definitions is the one that the paper says.
--- A computed example has to open the definitions that it computes with, those of crates below it too. Nothing rests on it.
+-- Nothing rests on it.
 use mathlib.Core.List.{map}
 use mathlib.Core.Path.{_≡_, refl}
-use Rattle.codes.specs.Codes as Codes
 use Rattle.cases.specs.CaseTables.{Case, computed, table, nineZeros, closing}
 
 -- In every case the definitions say what the paper says.

@@ -41,7 +41,6 @@ first-append (edit ∷ edits) b =
     ap (orElse (edit .finds)) (first-append edits b) ∙ sym (or-assoc (edit .finds) (firstBroken edits) (firstBroken b))
 
 -- ---- a list with none broken
-
 pub not-broken : (column number : ℕ) → fine ≡ broken column number → ⊥
 not-broken column number e = let z : _≡_ {A = ℕ} 0 1 = cc in omega arith
 
@@ -69,7 +68,6 @@ pub append-fine : (a b : List Edit) → firstBroken (a ++ b) ≡ fine → (first
 append-fine a b e = both-fine (firstBroken a) (firstBroken b) (sym (first-append a b) ∙ e)
 
 -- ---- the first
-
 here-first : (edit : Edit) (edits : List Edit) (column number : ℕ) (f : Finding) → edit .finds ≡ f → orElse f (firstBroken edits) ≡ broken column number
     → (edit .finds ≡ broken column number → ByLabel edit column number)
     → (firstBroken edits ≡ broken column number → FirstIn edits column number) → FirstIn (edit ∷ edits) column number

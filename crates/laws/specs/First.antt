@@ -21,7 +21,6 @@ module _ (edit : ℕ → Finding) (i end : ℕ) where
   first-found h column number hit = rw (left-suc end i h, hit)
 
 -- ---- the first
-
 pub not-broken : (column number : ℕ) → fine ≡ broken column number → ⊥
 not-broken column number e = let z : _≡_ {A = ℕ} 0 1 = cc in omega arith
 

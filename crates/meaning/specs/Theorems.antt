@@ -23,7 +23,6 @@ use Rattle.meaning.specs.Meaning.{contextAt, editsAt, LineEdit, onLine, 
 use Rattle.meaning.specs.BrokenEdits.{NoneBroken, FirstBroken}
 
 -- ---- a list with none broken
-
 -- Nothing is not something, and accepted is not refused.
 not-found : (line column number : ℕ) → nothing ≡ found line column number → ⊥
 not-found line column number e = let z : _≡_ {A = ℕ} 0 1 = cc in omega arith
@@ -69,7 +68,6 @@ file-labelled room held p (line ∷ lines) =
     (labelled-append these (withoutLines rest) (line-labelled (contextAt room held p) _ line) (file-labelled room held (recordOn (held .format) line ∷ p) lines))
 
 -- ---- the first
-
 -- The first edit is broken, or it is one after it.
 here-first : (this : LineEdit) (edits : List LineEdit) (says : Notice) (f : Finding) → this .edit .finds ≡ f
     → orFound (foundOn (this .line) f) (firstOfFile edits) ≡ found (says .line) (says .column) (says .number)

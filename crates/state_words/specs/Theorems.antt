@@ -72,7 +72,6 @@ pub state-back : (st r : State) (words : List ℕ) → walkIn words ≡ walkOf s
 state-back st r words told read = same-walk r st (read ∙ told)
 
 -- ---- words that tell no walk
-
 pub unfit-72 : (room : Room) → unfit room unfitWalk ≡ true
 unfit-72 room =
     not-eq-not .0 (λ fit. left-not-72 NoFormat 72 (not-false (isLeft NoFormat 72) (fit-standing room unfitWalk fit)) refl)

@@ -46,7 +46,6 @@ use Rattle.wage.specs.Exports.{numbers, answered, Called, called, Opened
 use Rattle.wage.specs.CallsFollow.{Follows, LineCall, InRow, AllFollow}
 
 -- ---- one call
-
 put-length : (walk : Walk) (words : List ℕ) → wordCount ≤ length words → length (putWords walk words) ≡ length words
 put-length walk words room =
     rw (enough walk words room, length-append (wordsOf walk) (drop wordCount words), words-length walk, length-drop wordCount words) (omega arith)
@@ -142,7 +141,6 @@ module _ (words answer : List ℕ) (t : Tables) (has : Called) (room : wordCount
       rw (sym tells) (continued-follows (endThrough words t) words answer has room promised (end-stands (roomOf t) (walkIn words) _ refl))
 
 -- ---- calls one after the other
-
 pub calls-follow : (calls : List LineCall) (words : List ℕ) (t : Tables) (walk : Walk) → walkIn words ≡ walk → wordCount ≤ length words
     → InRow words t calls → AllFollow walk t words calls
 calls-follow [] words t walk tells room row = tt
