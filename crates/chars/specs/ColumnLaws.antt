@@ -1,4 +1,4 @@
--- Laws: columns, as a loop over a field's columns uses them, and what the columns of a field hold.
+-- Laws: what a loop over a field's columns uses of columns, and what the columns of a field hold.
 use Prim.Native.Nat.{ℕ, _+_, _-_, _<_, _≤_}
 use mathlib.Core.Path.{_≡_, refl}
 use mathlib.Core.Bool.{Bool, true, false}

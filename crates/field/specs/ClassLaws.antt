@@ -1,4 +1,4 @@
--- Laws: the class test; and a class is found again from its number.
+-- Laws: the class test, as a loop over a field's columns uses it; and a class is found again from its number.
 use Prim.Native.Nat.{ℕ, _-_}
 use mathlib.Core.Path.{_≡_, refl}
 use mathlib.Core.List.{List}

@@ -1,4 +1,4 @@
--- Laws: `firstOf`: what a loop over the edits i to end uses, and what makes its answer the first.
+-- Laws: what a loop over the edits i to end uses of `firstOf`, and what makes its answer the first.
 use Prim.Native.Nat.{ℕ, zero, suc, _+_, _-_, _<_, _≤_}
 use mathlib.Core.Path.{_≡_, refl, sym, _∙_}
 use native.Mathlib.Nat.{add-zero}

@@ -1,4 +1,4 @@
--- Laws: a line that is made: characters, an end, and any bytes after it.
+-- Laws: a line that is made of characters and an end, with any bytes after it, is read back as that line.
 use Prim.Native.Nat.{ℕ, zero, suc, _+_, _<_, _≤_}
 use mathlib.Core.Bool.{Bool, true, false, _||_}
 use mathlib.Core.List.{List, [], _∷_, _++_}

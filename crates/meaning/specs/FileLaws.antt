@@ -1,4 +1,4 @@
--- Laws: a file's meaning: what its end says, what a line that is refused says, and that a line which passes leaves the rest to say it.
+-- Laws: what the end of a file says, what a line that is refused says, and that a line which passes leaves the rest to say it.
 use Prim.Native.Nat.{ℕ, _+_}
 use mathlib.Core.List.{List, [], _∷_, _++_, map, reverseAux, append-nil}
 use mathlib.Core.Path.{_≡_, refl, sym, ap, _∙_}

@@ -1,4 +1,4 @@
--- Laws: the columns of a number: writing one leaves all other columns, and a number of a given width stands in its columns in one way only.
+-- Laws: writing a number leaves all other columns, and a number of a given width stands in its columns in one way only.
 use Prim.Native.Nat.{ℕ, zero, suc, _+_, _-_, _*_, _<_, _≤_}
 use mathlib.Core.Path.{_≡_, refl, sym, ap, _∙_}
 use mathlib.Core.List.{List}

@@ -1,4 +1,4 @@
--- Laws: what a number that names no format stands for is lawful.
+-- Laws: the shape of a number that names no format is lawful.
 use Prim.Native.Nat.{ℕ}
 use mathlib.Core.Bool.{true, false, false≢true}
 use mathlib.Core.List.{[], _∷_}

@@ -1,4 +1,4 @@
--- Laws: sums of cents by format: a product with the most cents of a record does not wrap, and neither does one record more.
+-- Laws: by format, a product with the most cents of a record does not wrap, and neither does one record more.
 use Prim.Native.Nat.{ℕ, _+_, _*_, _≤_}
 use native.Mathlib.Nat.{le-trans, mul-le-mul}
 use native.Mathlib.Omega.{arith}

@@ -1,4 +1,4 @@
--- Laws: a list whose last entry is done: it keeps its number of entries and their FEINs, and is the list with the entry at the last place done.
+-- Laws: a list whose last entry is done keeps its number of entries and their FEINs, and is the list with the entry at the last place done.
 use Prim.Native.Nat.{ℕ, suc, _-_, _≤_}
 use mathlib.Core.List.{List, [], _∷_, _++_}
 use mathlib.Core.Path.{_≡_, refl, ap}

@@ -1,4 +1,4 @@
--- Laws: text written into a line: how a loop writes it, what then stands in its columns, and that the others stay as they were.
+-- Laws: how a loop writes text into a line, what then stands in its columns, and that the others stay as they were.
 use Prim.Native.Nat.{ℕ, zero, suc, _+_, _-_, _<_, _≤_}
 use mathlib.Core.Path.{_≡_, refl, sym, ap, _∙_}
 use mathlib.Core.List.{List, [], _∷_, _++_, append-nil}

@@ -1,4 +1,4 @@
--- Laws: text, patterns and addresses.
+-- Laws: what later layers cite of text, of patterns and of addresses.
 use Prim.Native.Nat.{ℕ, _+_, _-_, _<_, _≤_, zero, suc}
 use mathlib.Core.Path.{_≡_, refl, sym, ap, _∙_}
 use mathlib.Core.Bool.{Bool, true, false, not, _||_}

@@ -1,4 +1,4 @@
--- Definitions: that a call through words is the call of the walk, and that line calls in a row are: what a call leaves, the words tell to the next.
+-- Definitions: that a call through words follows the call of the walk, and that line calls in a row do: what a call leaves, the words tell to the next.
 use Prim.Native.Nat.{ℕ}
 use mathlib.Core.List.{List, [], _∷_}
 use mathlib.Core.Path.{_≡_}
