@@ -1,4 +1,4 @@
--- What the program answers: all input bytes to all output bytes.
+-- Definitions: what the program answers: all input bytes to all output bytes.
 use Prim.Native.Nat.{ℕ}
 use mathlib.Core.List.{List}
 use lib.ListN.{drop}

@@ -1,4 +1,4 @@
--- What the code of a turn answers, in the definitions' words.
+-- Definitions: what the code of a turn answers, in the definitions' words.
 use Prim.Native.Nat.{ℕ}
 use mathlib.Core.List.{List}
 use lib.ListN.{drop}

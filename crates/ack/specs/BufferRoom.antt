@@ -1,4 +1,5 @@
--- What a turn leaves over before the input has ended is less than the longest line, so a program's buffer of fixed size always has room for the next read.
+-- Laws: what a turn leaves over before the input has ended is less than the longest line,
+-- so a program's buffer of fixed size always has room for the next read.
 use Prim.Native.Nat.{ℕ, zero, suc, _-_, _<_}
 use mathlib.Core.Bool.{Bool, true, false}
 use mathlib.Core.List.{List, [], _∷_}

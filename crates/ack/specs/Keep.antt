@@ -1,14 +1,9 @@
--- The bytes that a turn did not take, moved to the front of the buffer, before the next read.
-use Prim.Native.Nat.{ℕ, suc, _+_, _-_, _≤_, _<_, min}
+-- Definitions: the bytes that a turn did not take, moved to the front of the buffer, before the next read.
+use Prim.Native.Nat.{ℕ, _-_, min}
 use mathlib.Core.List.{List, _++_}
-use mathlib.Core.Path.{_≡_, refl, sym, ap, _∙_}
-use native.Mathlib.Nat.{zero-add, add-comm}
-use native.Mathlib.Numerals.{add-one}
-use native.Mathlib.Omega.{arith}
-use lib.ListN.{length, take, drop, set, getD, length-append, length-take, length-drop}
-use lib.Seq.{paste-suc, length-take-le, getD-append-add, getD-drop}
+use lib.ListN.{length, take, drop}
 
--- The buffer with n bytes from a place on at its front; behind them it is as it was.
+-- The buffer with n bytes from a place on at its front; after them it is as it was.
 unfoldable pub moved : ℕ → ℕ → List ℕ → List ℕ
 moved at n bytes = take n (drop at bytes) ++ drop n bytes
 
@@ -19,31 +14,3 @@ pub record Kept : Type 0 where
 -- Those up to `end`, as far as there are any.
 abbrev pub kept : ℕ → ℕ → List ℕ → Kept
 kept at end bytes = record { count = min end (length bytes) - at; bytes = moved at (min end (length bytes) - at) bytes }
-
--- ---- the loop
-module _ (at : ℕ) (bytes : List ℕ) where
-  pub moved-none : bytes ≡ moved at 0 bytes
-  unfolding moved
-  moved-none = refl
-
-  pub moved-length : (n : ℕ) → at + n ≤ length bytes → length (moved at n bytes) ≡ length bytes
-  unfolding moved
-  moved-length n h = simp (length-append, length-take, length-drop) (omega arith)
-
-  -- What stands further back is as it was.
-  still : (n : ℕ) → at + n < length bytes → getD (moved at n bytes) (at + n) 0 ≡ getD (drop at bytes) n 0
-  unfolding moved
-  still n h =
-      let front = take n (drop at bytes) in
-      let width : length front ≡ n = length-take-le n (drop at bytes) (simp length-drop (omega arith)) in
-      let place : at + n ≡ length front + at = omega (arith, width) in
-      rw place (getD-append-add front (drop n bytes) at 0 ∙ getD-drop n bytes at 0 ∙ ap (λ (i : ℕ). getD bytes i 0) (add-comm n at) ∙ sym (getD-drop at bytes n 0))
-
-  copied : (n : ℕ) → at + n < length bytes → set (moved at n bytes) n (getD (drop at bytes) n 0) ≡ moved at (n + 1) bytes
-  unfolding moved
-  copied n h =
-      let turn = paste-suc bytes 0 (drop at bytes) n 0 (omega arith) (simp length-drop (omega arith)) in
-      rw add-one (rw (zero-add n, zero-add (suc n)) at turn)
-
-  pub moved-next : (n : ℕ) → at + n < length bytes → set (moved at n bytes) n (getD (moved at n bytes) (at + n) 0) ≡ moved at (n + 1) bytes
-  moved-next n h = rw (still n h) (copied n h)

@@ -7,7 +7,9 @@ pub mod Program
 pub mod ProgramLaws
 pub mod Acknowledgement
 pub mod ProgramMeans
+pub mod FramesAsInManual
 pub mod ManualFrames
 pub mod BufferRoom
 pub mod Once
 pub mod Keep
+pub mod KeepLaws

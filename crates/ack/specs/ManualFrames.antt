@@ -1,11 +1,10 @@
--- The sentence in the manual, of the acknowledgement that the program writes, and how long that is.
+-- Laws: the sentence in the manual holds of the acknowledgement that the program writes; and how long that is.
 use Prim.Native.Nat.{ℕ, _+_, _*_, _≤_}
 use mathlib.Core.Bool.{Bool, true, false}
 use mathlib.Core.List.{List}
 use mathlib.Core.Path.{_≡_, refl, sym, _∙_}
 use native.Mathlib.Omega.{arith}
 use lib.ListN.{length, drop}
-use Rattle.reason.specs.ReasonNumbers.{Notice}
 use Rattle.calendar.specs.Quarters.{isAllowed}
 use Rattle.edits.specs.FormatLaws.{quarter-opens}
 use Rattle.edits.specs.Formats.{isKnown, mayOpen}
@@ -14,31 +13,14 @@ use Rattle.edits.specs.declared.format.Format.{Format}
 use Rattle.meaning.specs.Employers.{employers-are}
 use Rattle.meaning.specs.Forward.{recordsOf, employersOf, totalsOf}
 use Rattle.meaning.specs.Meaning.{LineEdit, fileEdits, Outcome, accepted, refused, meaning}
-use Rattle.meaning.specs.Theorems.{NoneBroken, FirstBroken, not-refused, accepted-iff, first-is-first}
+use Rattle.meaning.specs.Theorems.{not-refused, accepted-iff, first-is-first}
 use Rattle.step.specs.Moves.{openingNotice}
 use Rattle.frames.specs.FirstByte.{never-both}
 use Rattle.frames.specs.FrameLaws.{refusal-length, within-bound}
-use Rattle.frames.specs.Frames.{refusalFrame, framesOf}
+use Rattle.frames.specs.Frames.{framesOf}
 use Rattle.ack.specs.Acknowledgement.{programRoom, fileFrames, acknowledgement}
 use Rattle.ack.specs.Turns.{headerSize, headerQuarter, headerOpening}
-
--- "accepted .. with each employer's totals below it": a frame for each E record, with the S records under it, then the closing frame with those of the file.
-abbrev pub acceptedFrames : Format → List ℕ → List ℕ
-acceptedFrames format file = framesOf (accepted (employersOf (recordsOf format file)) (totalsOf (recordsOf format file)))
-
--- "'refused' gives the first line, column and reason": one frame, that of the first broken edit in the stated order.
-pub record RefusedFirst (edits : List LineEdit) (output : List ℕ) : Type 0 where
-  pub says : Notice
-  pub frame : output ≡ refusalFrame says
-  pub first : FirstBroken edits says
-
--- What the manual says of a file with these edits, of the output.
-pub record ToldAsInManual (format : Format) (edits : List LineEdit) (file output : List ℕ) : Type 0 where
-  -- "'accepted' means the published edits found nothing": these frames are told exactly if none is broken,
-  pub accepted-none-broken : output ≡ acceptedFrames format file → NoneBroken edits
-  pub none-broken-accepted : NoneBroken edits → output ≡ acceptedFrames format file
-  -- and any other output is a refusal.
-  pub otherwise-refused : (output ≡ acceptedFrames format file → ⊥) → RefusedFirst edits output
+use Rattle.ack.specs.FramesAsInManual.{acceptedFrames, ToldAsInManual}
 
 module _ (held : Opening) (file : List ℕ) where
   abbrev edits : List LineEdit
@@ -79,6 +61,6 @@ file-bound : (held : Opening) (file : List ℕ) (allowed : Bool) → mayOpen hel
 file-bound held file true e = rw e (outcome-bound held file (meaning programRoom held file) refl)
 file-bound held file false e = rw (e, refusal-length (openingNotice held)) (omega arith)
 
--- Of every input, whatever it is: the employers are the E records of the file behind its header.
+-- Of every input, whatever it is: the employers are the E records of the file after its header.
 pub acknowledgement-bound : (format : Format) (input : List ℕ) → length (acknowledgement format input) ≤ 35 * length (employersOf (recordsOf format (drop headerSize input))) + 35
 acknowledgement-bound format input = file-bound (headerOpening format input) (drop headerSize input) (mayOpen (headerOpening format input)) refl

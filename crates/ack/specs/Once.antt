@@ -1,4 +1,4 @@
--- No second answer of a turn fits its promise.
+-- Laws: no second answer of a turn fits its promise.
 use Prim.Native.Nat.{ℕ, _≤_}
 use mathlib.Core.List.{List}
 use mathlib.Core.Path.{_≡_, refl, sym, ap}

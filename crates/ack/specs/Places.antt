@@ -2,7 +2,7 @@
 use Prim.Native.Nat.{ℕ, _-_}
 use mathlib.Core.Bool.{Bool, _&&_, _||_}
 use lib.Dec.{eqb, ltb, leb}
-use Rattle.walk.specs.WholeLaws.{nextPlace}
+use Rattle.walk.specs.LineAndRun.{nextPlace}
 use Rattle.ack.specs.Turns.{longestLine}
 use Rattle.ack.specs.declared.Place.{Place}
 
@@ -10,6 +10,6 @@ use Rattle.ack.specs.declared.Place.{Place}
 abbrev pub takesLine : Place → ℕ → Bool
 takesLine here held = ltb (here .at) held && (here .last || leb longestLine (held - here .at))
 
--- Behind the bytes that a line took; after a refusal, which takes none, at the end, where the end call comes.
+-- After the bytes that a line took; after a refusal, which takes none, at the end, where the end call comes.
 abbrev pub placeBehind : Place → ℕ → ℕ → Place
 placeBehind here taken held = record { at = nextPlace (here .at) taken held; last = eqb taken 0 || here .last }

@@ -1,4 +1,4 @@
--- program-means, of the walk: whatever the reads are, the turns end as one walk over all that was read.
+-- Laws: program-means, of the walk: whatever the reads are, the turns end as one walk over all that was read.
 use Prim.Native.Nat.{ℕ, zero, suc, _+_, _-_, _≤_, _<_}
 use mathlib.Core.Bool.{Bool, true, false}
 use mathlib.Core.List.{List, [], _∷_, _++_, append-nil, append-assoc}
@@ -16,17 +16,18 @@ use Rattle.number.specs.NumberLaws.{number-in-front}
 use Rattle.number.specs.Numbers.{numberIn}
 use Rattle.lines.specs.Lines.{firstLine}
 use Rattle.edits.specs.declared.format.Format.{Format}
-use Rattle.record.specs.ShapeOf.{shapeOf, lawfulOf}
+use Rattle.record.specs.ShapeOf.{shapeOf}
+use Rattle.record.specs.Laws.{lawfulOf}
 use Rattle.tables.specs.Room.{Tables}
 use Rattle.state.specs.Walks.{Walk}
 use Rattle.step.specs.Steps.{Out, openStep, lineStep, endStep}
 use Rattle.walk.specs.CallLaws.{pieces-are-whole}
-use Rattle.walk.specs.Calls.{calls}
+use Rattle.walk.specs.Calls.{calls, all}
 use Rattle.walk.specs.LineAndRunLaws.{lines-carry, refused-alone, some-taken, none-taken, run-within, run-next}
 use Rattle.walk.specs.LineAndRun.{linesStep}
-use Rattle.walk.specs.WholeLaws.{all, calls-end, calls-refused, calls-taken, taken-within, loop-done}
+use Rattle.walk.specs.WholeLaws.{calls-end, calls-refused, calls-taken, taken-within, loop-done}
 use Rattle.ack.specs.Turns.{Progress, waiting, walking, finished, Turn, ends, goesOn, longestLine, linesTurn, headerQuarter, headerOpening, turn}
-use Rattle.ack.specs.Program.{turns, input}
+use Rattle.ack.specs.Program.{turns, input, walkOver}
 
 -- A turn that is not the last agrees with a walk over what is held and all that will be read: it has ended so, or the rest of the walk is still before it.
 abbrev Agrees : Progress → List ℕ → Tables → List ℕ → Out → Type 0
@@ -56,7 +57,7 @@ line-taken walk t held future some-held whole o is some =
     calls-taken walk t (held ++ future) (rw (length-append held future) (omega arith)) o (is ∙ whole) some
     ∙ ap (λ (s : List ℕ). calls all 0 s (o .walk) (o .left)) (drop-append-le (o .taken) held future within)
 
--- So it is with a line and the plain S records behind it: the call on what is held leads as far as the calls on the whole input.
+-- So it is with a line and the plain S records after it: the call on what is held leads as far as the calls on the whole input.
 module _ (held future : List ℕ) (walk : Walk) (t : Tables) (some-held : 0 < length held) (whole : lineStep walk (firstLine held) t ≡ lineStep walk (firstLine (held ++ future)) t) where
   abbrev Carried : ℕ → Walk → Tables → Type 0
   Carried taken w u = calls all 0 (held ++ future) walk t ≡ calls all 0 (drop taken held ++ future) w u
@@ -159,10 +160,6 @@ header-held held future h =
     rw (number, ends-with)
 
 module _ (format : Format) where
-  -- A walk over an input: header, then the file.
-  abbrev pub walkOver : List ℕ → Tables → Out
-  walkOver all-bytes t = calls all 0 (drop 7 all-bytes) (openStep (headerOpening format all-bytes) t .walk) (openStep (headerOpening format all-bytes) t .left)
-
   -- ---- all turns
   finished-stays : (walk : Walk) (left : List ℕ) (reads : List (List ℕ)) (t : Tables) → turns format (finished walk) left reads t ≡ record { progress = finished walk; left = []; tables = t }
   unfolding turns turn
@@ -187,13 +184,13 @@ module _ (format : Format) where
 
   -- Before the header is whole, and when it is.
   opened-agrees : (held : List ℕ) (t : Tables) (future : List ℕ) → 7 ≤ length held
-      → calls all 0 (drop 7 held ++ future) (openStep (headerOpening format held) t .walk) (openStep (headerOpening format held) t .left) ≡ walkOver (held ++ future) t
+      → calls all 0 (drop 7 held ++ future) (openStep (headerOpening format held) t .walk) (openStep (headerOpening format held) t .left) ≡ walkOver format (held ++ future) t
   opened-agrees held t future h = rw (header-held held future h, drop-append-le 7 held future h)
 
-  waits : (reads : List (List ℕ)) (held : List ℕ) (t : Tables) → turns format waiting held reads t ≡ ends (walkOver (held ++ input reads) t)
+  waits : (reads : List (List ℕ)) (held : List ℕ) (t : Tables) → turns format waiting held reads t ≡ ends (walkOver format (held ++ input reads) t)
       → (whole : Bool) → leb 7 (length held) ≡ whole
       → (let next = if whole then linesTurn false 0 (drop 7 held) (openStep (headerOpening format held) t .walk) (openStep (headerOpening format held) t .left) else record { progress = waiting; left = held; tables = t } in
-      turns format (next .progress) (next .left) reads (next .tables)) ≡ ends (walkOver (held ++ input reads) t)
+      turns format (next .progress) (next .left) reads (next .tables)) ≡ ends (walkOver format (held ++ input reads) t)
   waits reads held t more true e =
       let walk = openStep (headerOpening format held) t .walk in
       let left = openStep (headerOpening format held) t .left in
@@ -204,11 +201,11 @@ module _ (format : Format) where
   waits reads held t more false e = more
 
   -- Whatever the reads are, the turns end as one walk over all that was read.
-  pub turns-wait : (reads : List (List ℕ)) (left : List ℕ) (t : Tables) → turns format waiting left reads t ≡ ends (walkOver (left ++ input reads) t)
+  pub turns-wait : (reads : List (List ℕ)) (left : List ℕ) (t : Tables) → turns format waiting left reads t ≡ ends (walkOver format (left ++ input reads) t)
   unfolding turns turn
   turns-wait [] left t =
       lines-ended (drop 7 left) 0 (openStep (headerOpening format left) t .walk) (openStep (headerOpening format left) t .left)
-      ∙ ap (λ (s : List ℕ). ends (walkOver s t)) (sym (append-nil left))
+      ∙ ap (λ (s : List ℕ). ends (walkOver format s t)) (sym (append-nil left))
   turns-wait (read ∷ reads) left t =
       waits reads (left ++ read) t (turns-wait reads (left ++ read) t) (leb 7 (length (left ++ read))) refl
-      ∙ ap (λ (s : List ℕ). ends (walkOver s t)) (append-assoc left read (input reads))
+      ∙ ap (λ (s : List ℕ). ends (walkOver format s t)) (append-assoc left read (input reads))

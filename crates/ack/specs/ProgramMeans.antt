@@ -1,4 +1,4 @@
--- program-means: for every way of cutting the input into reads, the frames of the last turn are the acknowledgement of the input.
+-- Laws: program-means: for every way of cutting the input into reads, the frames of the last turn are the acknowledgement of the input.
 use Prim.Native.Nat.{ℕ, _≤_}
 use mathlib.Core.Bool.{Bool, true, false, false≢true}
 use mathlib.Core.List.{List, [], _++_}
@@ -14,11 +14,12 @@ use Rattle.edits.specs.declared.Opening.{Opening}
 use Rattle.edits.specs.declared.Phase.the-variants.{AfterF}
 use Rattle.edits.specs.declared.format.Format.{Format}
 use Rattle.shape.specs.declared.Said.{Said}
-use Rattle.tables.specs.Pad.{pad, length-pad}
+use Rattle.tables.specs.Pad.{pad}
+use Rattle.tables.specs.PadLaws.{length-pad}
 use Rattle.tables.specs.Room.{Tables, tables, roomOf}
 use Rattle.tables.specs.Tables.{noEmployer}
 use Rattle.tables.specs.declared.Employer.{Employer}
-use Rattle.record.specs.ShapeOf.{lawfulOf}
+use Rattle.record.specs.Laws.{lawfulOf}
 use Rattle.meaning.specs.Before.{phaseIn, openIn, idsUnder, totalsIn, entriesIn}
 use Rattle.meaning.specs.BeforeLaws.{entries-many}
 use Rattle.meaning.specs.Meaning.{Outcome, accepted, refused, recordsOnto, meaning}
@@ -29,26 +30,22 @@ use Rattle.state.specs.Walks as walks
 use Rattle.state.specs.Walks.{refusedWalk}
 use Rattle.step.specs.Moves.{openingNotice}
 use Rattle.step.specs.Steps.{Out}
-use Rattle.walk.specs.At.{acceptedAt, Good}
+use Rattle.walk.specs.At.{acceptedAt}
 use Rattle.walk.specs.AtEnd.{all-taken, refused-left}
 use Rattle.walk.specs.CallLaws.{file-sound-at}
 use Rattle.walk.specs.Calls.{leaves, wholeFile}
-use Rattle.walk.specs.GoodLaws.{good-none}
+use Rattle.walk.specs.GoodLaws.{good-none, Good}
 use Rattle.walk.specs.WholeLaws.{whole-means}
-use Rattle.frames.specs.Frames.{refusalFrame, framesOf, written, Framing, untouched, fitted, roomWithout, framing}
+use Rattle.frames.specs.Frames.{refusalFrame, framesOf, written, Framing, fitted, roomWithout, framing}
 use Rattle.frames.specs.FrameLaws.{refusal-length, within-bound, accepted-framed, refused-framed}
 use Rattle.ack.specs.Acknowledgement.{programRoom, fileFrames, acknowledgement}
-use Rattle.ack.specs.Program.{turns, input}
+use Rattle.ack.specs.Program.{turns, input, enough, turnFrames}
 use Rattle.ack.specs.ProgramLaws.{turns-wait}
-use Rattle.ack.specs.Turns.{Progress, waiting, walking, finished, ends, headerOpening}
+use Rattle.ack.specs.Turns.{waiting, ends, headerOpening}
 
 -- The turns end as the whole file does.
 whole-end : (format : Format) (reads : List (List ℕ)) (t : Tables) → turns format waiting [] reads t ≡ ends (wholeFile (headerOpening format (input reads)) (drop 7 (input reads)) t)
 whole-end format reads t = turns-wait format reads [] t ∙ ap ends (whole-means (headerOpening format (input reads)) (drop 7 (input reads)) t)
-
--- The buffer that holds the frames of 1,024 employers: "35 bytes for each employer and 35 more".
-abbrev pub enough : ℕ
-enough = 35875
 
 -- Frames that fit are written at the front.
 abbrev writes : List ℕ → List ℕ → Framing
@@ -107,12 +104,6 @@ module _ (held : Opening) (file : List ℕ) (t : Tables) (room : roomOf t ≡ pr
     at : (allowed : Bool) → mayOpen held ≡ allowed → WritesFor (wholeFile held file t) (fileFrames held file)
     at true e = rw (e, room) (meant-written e (meaning programRoom held file) refl)
     at false e = rw e (refused-written (held .format) (openingNotice held) (t .list) out (left-opening held) h)
-
--- The frames that a finished turn writes into a buffer.
-abbrev pub turnFrames : Progress → Tables → List ℕ → Framing
-turnFrames waiting t out = untouched 87 out
-turnFrames (walking walk) t out = framing walk (t .list) out
-turnFrames (finished walk) t out = framing walk (t .list) out
 
 -- For every format and every way of cutting the input into reads, the turns end, and the frames written are the acknowledgement of all that was read.
 pub program-means : (format : Format) (reads : List (List ℕ)) (t : Tables) → roomOf t ≡ programRoom → (out : List ℕ) → enough ≤ length out

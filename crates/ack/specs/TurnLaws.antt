@@ -1,4 +1,4 @@
--- The steps of the loop over the lines of a turn.
+-- Laws: the steps of the loop over the lines of a turn.
 use Prim.Native.Nat.{ℕ, zero, suc, _+_, _-_, _≤_, _<_, min}
 use mathlib.Core.Bool.{Bool, true, false, _&&_, _||_}
 use mathlib.Core.List.{List, [], _∷_}
@@ -9,7 +9,8 @@ use lib.Dec.{eqb, ltb, leb}
 use lib.ListN.{length, drop, length-drop, drop-of-length-le}
 use lib.Seq.{drop-drop, drop-length}
 use borrow.Author.Tests.{ltb-true, ltb-false, eqb-false}
-use Rattle.laws.specs.Choice.{if_then_else_, both-hold}
+use Rattle.laws.specs.Choice.{if_then_else_}
+use Rattle.laws.specs.ChoiceLaws.{both-hold}
 use Rattle.laws.specs.Lists.{behind}
 use Rattle.tables.specs.Room.{Tables}
 use Rattle.tables.specs.TableSteps.{drop-least}
@@ -76,7 +77,7 @@ module _ (held : List ℕ) (here : Place) (walk : Walk) (t : Tables) where
   some-left : here .at < length held → 0 < length (drop (here .at) held)
   some-left h = simp length-drop (omega arith)
 
-  -- The loop stops at the end of the bytes, if behind them comes the end call,
+  -- The loop stops at the end of the bytes, if after them comes the end call,
   pub loop-ends : takesLine here (length held) ≡ false → here .last ≡ true → turnFrom held here walk t ≡ ends (endStep walk t)
   loop-ends e last = turn-over (here .last) held (here .at) (ltb-false (here .at) (length held) (over (ltb (here .at) (length held)) e)) walk t ∙ rw last where
     over : (more : Bool) → more && (here .last || leb longestLine (length held - here .at)) ≡ false → more ≡ false
@@ -98,7 +99,7 @@ module _ (held : List ℕ) (here : Place) (walk : Walk) (t : Tables) where
   pub takes-within : takesLine here (length held) ≡ true → here .at < length held
   takes-within e = ltb-true (here .at) (length held) (taking e .0)
 
-  -- Behind the lines that a call took the turn goes on.
+  -- After the lines that a call took the turn goes on.
   module _ (o : Out) (e : takesLine here (length held) ≡ true) (same : o ≡ linesStep walk (drop (here .at) held) t) where
     takes : turnFrom held here walk t ≡ (if eqb (o .taken) 0 then ends (endStep (o .walk) (o .left)) else linesTurn (here .last) 0 (drop (o .taken) (drop (here .at) held)) (o .walk) (o .left))
     takes = turn-line (here .last) (drop (here .at) held) (some-left (takes-within e)) (rw (length-drop (here .at) held) (taking e .1)) walk t o same

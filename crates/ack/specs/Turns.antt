@@ -1,4 +1,4 @@
--- A file that is read piece by piece. A turn takes the lines that are whole in what is held; what is left over stands before the next read.
+-- Definitions: a file that is read piece by piece. A turn takes the lines that are whole in what is held; what is left over stands before the next read.
 use Prim.Native.Nat.{ℕ, zero, suc, _-_, _/_, _%_}
 use mathlib.Core.Bool.{Bool, _||_}
 use mathlib.Core.List.{List, [], _∷_}
@@ -59,7 +59,7 @@ abbrev pub goesOn : Walk → Tables → List ℕ → Turn
 goesOn walk t left = record { progress = walking walk; left = left; tables = t }
 
 -- Lines are taken while the longest line would be there whole, or the input has ended; then, or after a refusal, comes the end call. A call takes a line and
--- the plain S records right behind it (`linesStep`), as a call for each of them would. `skip` bytes still belong to the lines taken last.
+-- the plain S records right after it (`linesStep`), as a call for each of them would. `skip` bytes still belong to the lines taken last.
 unfoldable pub linesTurn : Bool → ℕ → List ℕ → Walk → Tables → Turn
 linesTurn ended skip [] walk t = if ended then ends (endStep walk t) else goesOn walk t []
 linesTurn ended (suc skip) (b ∷ rest) walk t = linesTurn ended skip rest walk t

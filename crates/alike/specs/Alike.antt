@@ -1,4 +1,4 @@
--- Demand 3: two files of a format that are alike but for the employees.
+-- Definitions: when two files of a format are alike but for the employees (demand 3).
 use Prim.Native.Nat.{ℕ, _+_}
 use mathlib.Core.Bool.{Bool}
 use mathlib.Core.List.{List, [], _∷_, _++_, map}

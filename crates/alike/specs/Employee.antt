@@ -1,4 +1,4 @@
--- nothing-of-the-employee, demand 3: what an acknowledgement and the lent tables tell of two files that are alike is the same.
+-- Laws: nothing-of-the-employee, demand 3: what an acknowledgement and the lent tables tell of two files that are alike is the same.
 use Prim.Native.Nat.{ℕ}
 use mathlib.Core.Bool.{Bool, true, false}
 use mathlib.Core.List.{List, [], _++_}

@@ -1,4 +1,4 @@
--- That the second file holds permitted characters in the employee's columns is needed: with a line end there it is cut into other lines.
+-- Laws: that the second file holds permitted characters in the employee's columns is needed: with a line end there it is cut into other lines.
 -- A computed example has to open the definitions that it computes with, those of crates below it too. Nothing rests on it.
 use Prim.Native.Nat.{ℕ, zero, suc}
 use mathlib.Core.Bool.{true, false, false≢true}

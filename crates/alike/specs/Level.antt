@@ -1,5 +1,5 @@
--- Two files that are alike, behind as many lines of each: what their records come to is the same, but for the employees' numbers and for the sums of an E that is
--- still open.
+-- Laws: two files that are alike, after as many lines of each: what their records come to is the same,
+-- but for the employees' numbers and for the sums of an E that is still open.
 use Prim.Native.Nat.{ℕ, _+_}
 use mathlib.Core.List.{List, []}
 use mathlib.Core.Path.{_≡_, ap, ap₂, _∙_}

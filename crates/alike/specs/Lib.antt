@@ -8,5 +8,6 @@ pub mod Ordered
 pub mod OrderedLaws
 pub mod EndHidden
 pub mod Hypotheses
+pub mod HypothesisTests
 pub mod Pair
 pub mod Needed

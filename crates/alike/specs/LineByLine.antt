@@ -1,4 +1,4 @@
--- Two files that are alike come to the same end, line by line.
+-- Laws: two files that are alike come to the same end, line by line.
 use Prim.Native.Nat.{ℕ, _+_}
 use mathlib.Core.Bool.{Bool, true, false, false≢true}
 use mathlib.Core.List.{List, [], _∷_, _++_}
@@ -25,9 +25,9 @@ use Rattle.shape.specs.Shape.{Shape, passed, verdictBy}
 use Rattle.shape.specs.declared.EmployerOn.{EmployerOn}
 use Rattle.shape.specs.declared.Said.{Said}
 use Rattle.shape.specs.declared.Said.the-variants.{OfA, OfE, OfS, OfT, OfF, OfNone}
-use Rattle.record.specs.ShapeOf.{shapeOf, lawfulOf}
+use Rattle.record.specs.ShapeOf.{shapeOf}
 use Rattle.record.specs.Judge.{recordOn, editsAmong}
-use Rattle.record.specs.Laws.{judge-says, judged-length, alike-judged, other-judged, passed-fits}
+use Rattle.record.specs.Laws.{judge-says, judged-length, alike-judged, other-judged, passed-fits, lawfulOf}
 use Rattle.tables.specs.Laws.{among-none}
 use Rattle.tables.specs.Room.{Room}
 use Rattle.tables.specs.Tables.{isAmong}
@@ -70,7 +70,7 @@ module _ (s : Shape) (l : Lawful s) (one other : Line) (ones others : List Line)
   asked (running earlier before hp hq same sums seconds) =
       seen-by (eqb (idOf s one) 0) (idOf s one) (idOf s other) p q earlier before refl (sym zero) hp hq (repeats-split earlier before same .0)
 
-  -- An S record that passes stands under an open E, and the run goes on behind it.
+  -- An S record that passes stands under an open E, and the run goes on after it.
   run-on : phaseIn p ≡ EOpen → Run s p q (one ∷ ones) (other ∷ others) → Run s (OfS (employeeOn s one) ∷ p) (OfS (employeeOn s other) ∷ q) ones others
   run-on opened (shut phase sum none none') = absurd (phase opened)
   run-on opened (running earlier before hp hq same sums seconds) =

@@ -1,4 +1,4 @@
--- Each hypothesis of demand 3 is needed: two files that meet all the others, but not it, can mean different things.
+-- Laws: each hypothesis of demand 3 is needed: two files that meet all the others, but not it, can mean different things.
 -- A computed example has to open the definitions that it computes with, those of crates below it too. Nothing rests on it.
 use Prim.Native.Nat.{ℕ}
 use mathlib.Core.Bool.{true}
@@ -10,17 +10,11 @@ use Rattle.lines.specs.Lines.{joined}
 use Rattle.edits.specs.Edit.{firstBroken}
 use Rattle.shape.specs.Hidden.{blotFrom}
 use Rattle.meaning.specs.Meaning.{refused, meaning}
-use Rattle.cases.specs.Cases.{room, held, computed, passes}
+use Rattle.cases.specs.CaseTables.{room, held, computed, passes}
 use Rattle.cases.specs.Example.{reads, exampleWith}
 use Rattle.alike.specs.Employee.{meaning-alike}
-use Rattle.alike.specs.Hypotheses.{Hypothesis, EqualBytes, OwnRules, ZeroAlike, RepeatAlike, WagesAlike, Met, AllMet, others, together, isMet, areMet, all-met-by}
-
-pub record Needed (left : Hypothesis) : Type 0 where
-  pub one : List ℕ
-  pub other : List ℕ
-  pub others-met : AllMet (others left) one other
-  pub not-met : Met left one other → ⊥
-  pub differs : meaning room held one ≡ meaning room held other → ⊥
+use Rattle.alike.specs.Hypotheses.{Hypothesis, EqualBytes, OwnRules, ZeroAlike, RepeatAlike, WagesAlike, others, Needed}
+use Rattle.alike.specs.HypothesisTests.{together, isMet, areMet, all-met-by}
 
 -- ---- the files
 -- A file that is accepted, another that is not, and its refusal.

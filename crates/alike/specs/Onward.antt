@@ -1,4 +1,4 @@
--- A record further, two files that are alike still come to the same.
+-- Laws: a record further, two files that are alike still come to the same.
 use Prim.Native.Nat.{ℕ, _+_}
 use mathlib.Core.Bool.{Bool, true, false, _||_}
 use mathlib.Core.List.{List, [], _∷_, _++_}

@@ -1,4 +1,4 @@
--- Demand 3 in the order's own words: which bytes may differ is told by places of the first file alone.
+-- Definitions: demand 3 in the order's own words: which bytes may differ is told by places of the first file alone.
 use Prim.Native.Nat.{ℕ}
 use mathlib.Core.List.{List, map}
 use mathlib.Core.Path.{_≡_}

@@ -1,11 +1,12 @@
--- The order's own words and `Alike` say the same of two files; so all that is proved of files that are alike is proved of the files that the order speaks of.
+-- Laws: the order's own words and `Alike` say the same of two files;
+-- so all that is proved of files that are alike is proved of the files that the order speaks of.
 use Prim.Native.Nat.{ℕ, _+_}
 use mathlib.Core.Bool.{true}
 use mathlib.Core.List.{List, [], _∷_, _++_, map}
 use mathlib.Core.Path.{_≡_, refl, sym, ap, ap₂, _∙_}
 use native.Mathlib.Omega.{arith}
 use lib.ListN.{length, getD}
-use Rattle.laws.specs.Choice.{both-hold}
+use Rattle.laws.specs.ChoiceLaws.{both-hold}
 use Rattle.lines.specs.Changed.{changed-lines}
 use Rattle.lines.specs.HiddenPlaces.{MayHold}
 use Rattle.lines.specs.HiddenPlaceLaws.{equal-changed, changed-equal}
@@ -19,7 +20,8 @@ use Rattle.shape.specs.Hidden.{isEmployee, hidesOn, isOfEmployee, blot}
 use Rattle.shape.specs.Lawful.{Lawful}
 use Rattle.shape.specs.Shape.{Shape}
 use Rattle.pfml.specs.PfmlLawful.{no-second}
-use Rattle.record.specs.ShapeOf.{shapeOf, lawfulOf}
+use Rattle.record.specs.ShapeOf.{shapeOf}
+use Rattle.record.specs.Laws.{lawfulOf}
 use Rattle.tables.specs.Room.{Tables}
 use Rattle.walk.specs.Calls.{Lending, walked}
 use Rattle.ack.specs.Acknowledgement.{acknowledgement}

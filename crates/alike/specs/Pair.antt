@@ -1,4 +1,4 @@
--- Two files that differ and are alike: more than a file and itself meets the hypotheses of demand 3.
+-- Laws: two files that differ and are alike: more than a file and itself meets the hypotheses of demand 3.
 -- A computed example has to open the definitions that it computes with, those of crates below it too. Nothing rests on it.
 use Prim.Native.Nat.{ℕ}
 use Prim.Native.String.{String}
@@ -17,11 +17,12 @@ use Rattle.pfml.specs.PfmlLawful.{pfml-lawful}
 use Rattle.shape.specs.Hidden.{blotFrom}
 use Rattle.tables.specs.Room.{Room}
 use Rattle.meaning.specs.Meaning.{accepted, meaning}
-use Rattle.cases.specs.Cases.{room, held, computed}
+use Rattle.cases.specs.CaseTables.{room, held, computed}
 use Rattle.cases.specs.Example.{Change, reads, changed, fileOf, exampleLines}
 use Rattle.alike.specs.Alike.{Alike}
 use Rattle.alike.specs.Employee.{meaning-alike}
-use Rattle.alike.specs.Hypotheses.{EqualBytes, others, together, isMet, met-by, all-met-by}
+use Rattle.alike.specs.Hypotheses.{EqualBytes, others}
+use Rattle.alike.specs.HypothesisTests.{together, isMet, met-by, all-met-by}
 use Rattle.alike.specs.Ordered.{AsOrdered}
 use Rattle.alike.specs.OrderedLaws.{alike-ordered, as-ordered}
 

@@ -1,11 +1,12 @@
--- Lines that are alike stay so from line to line.
+-- Laws: lines that are alike stay so from line to line.
 use Prim.Native.Nat.{ℕ, _+_}
 use mathlib.Core.Bool.{Bool, true, false, _&&_, false≢true, and-false}
 use mathlib.Core.List.{List, [], _∷_, _++_, map}
 use mathlib.Core.Path.{_≡_, refl, sym, ap, _∙_}
 use lib.Dec.{eqb}
 use lib.ListN.{length}
-use Rattle.laws.specs.Choice.{if_then_else_, both-hold}
+use Rattle.laws.specs.Choice.{if_then_else_}
+use Rattle.laws.specs.ChoiceLaws.{both-hold}
 use Rattle.lines.specs.Lines.{Line}
 use Rattle.shape.specs.Blot.{employee-alike, line-same}
 use Rattle.shape.specs.Hidden.{ofEmployee, ofEmployer, isEmployee, isEmployer, employeeOn, blot, MeetsOwn}
@@ -112,7 +113,7 @@ module _ (s : Shape) (l : Lawful s) (one other : Line) (ones others : List Line)
     pub other-meets : MeetsOwn s other
     other-meets = employee-meets s other others other-is (all .own-other)
 
--- ---- behind the line
+-- ---- after the line
 abbrev ifSo : {A : Type 0} → Bool → A → List A → List A
 ifSo so a l = if so then a ∷ l else l
 

@@ -18,7 +18,7 @@ use Rattle.number.specs.Numbers.{numberIn}
 use Rattle.number.specs.NumberLaws.{wide-width, good-width, number-bad}
 use Rattle.text.specs.Put.{blanks}
 use Rattle.text.specs.Text.{allBlank}
-use Rattle.field.specs.Classes.{class-again}
+use Rattle.field.specs.ClassLaws.{class-again}
 use Rattle.field.specs.declared.class.Class.the-variants.{AccountNumber}
 use Rattle.edits.specs.FieldRow.{row, firstIn, lastIn, noRow}
 use Rattle.pfml_fields.specs.Rows.{fields-of-E, account-number-of-E}

@@ -22,8 +22,8 @@ use Rattle.field.specs.declared.class.Class.{Class}
 use Rattle.edits.specs.FieldRow.{classIn, firstIn, lastIn, noRow}
 use Rattle.edits.specs.Edit.{firstBroken}
 use Rattle.edits.specs.EditLaws.{first-none, first-cons, first-append}
-use Rattle.edits.specs.Tests.{ownRest}
-use Rattle.edits.specs.FieldParts.{Wide, own-parts}
+use Rattle.edits.specs.Tests.{ownRest, Wide}
+use Rattle.edits.specs.FieldParts.{own-parts}
 use Rattle.edits.specs.declared.Landmarks.{Landmarks}
 use Rattle.text.specs.Put.{blanks}
 use Rattle.write.specs.PartLaws.{puts-keep, put-none, put-first}

@@ -11,7 +11,7 @@ use Rattle.laws.specs.Finding.{orElse}
 use Rattle.chars.specs.Characters.{isBlank, capitals}
 use Rattle.chars.specs.CharacterLaws.{capitals-already}
 use Rattle.chars.specs.ColumnLaws.{column-says, blank-column}
-use Rattle.field.specs.Classes.{class-again}
+use Rattle.field.specs.ClassLaws.{class-again}
 use Rattle.field.specs.declared.class.Class.the-variants.{RecordLetter}
 use Rattle.edits.specs.FieldRow.{noRow}
 use Rattle.pfml_fields.specs.Rows.{LetterFirst, letters-first}

@@ -14,7 +14,7 @@ use Rattle.field.specs.declared.class.Class.{Class}
 use Rattle.field.specs.declared.class.Class.the-variants.{Ignored, RecordLetter, BlankSpace, Numeric, AccountNumber, Flag, ThirdQuarterFlag, Period, RequiredText, OptionalText, PersonName, EntityCode, StateCode, ZipCode, ZipExtension, TaxYear, EmployerFein, IdentityNumber, CeaseDate}
 use Rattle.edits.specs.FieldRow.{classIn, firstIn, lastIn}
 use Rattle.pfml_fields.specs.Fit.{isNumber}
-use Rattle.edits.specs.FieldParts.{Readable}
+use Rattle.edits.specs.Tests.{Readable}
 use Rattle.build.specs.Building.{fitsIn}
 use Rattle.build.specs.RowLaws.{AllReadable}
 use Rattle.build.specs.StandLaws.{Each, Stands, amount-read, amount-ink, none-read, words-read}

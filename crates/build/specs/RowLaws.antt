@@ -13,7 +13,7 @@ use Rattle.pfml_fields.specs.Fields.{rowsOf, fields, firstField}
 use Rattle.pfml_fields.specs.Fit.{isNumber, number-width}
 use Rattle.pfml_fields.specs.Rows.{all-fields, in-list, fields-counted, field-in-all, rows-in-order, none-behind}
 use Rattle.pfml_fields.specs.Tiling.{tiles, rows-tile}
-use Rattle.edits.specs.FieldParts.{Readable}
+use Rattle.edits.specs.Tests.{Readable}
 use Rattle.pfml.specs.Edits.{rowsFor}
 use Rattle.pfml.specs.Kinds.{placeInOrder, isKnown}
 use Rattle.pfml.specs.declared.kind.Kind.{Kind}

@@ -17,10 +17,11 @@ use Rattle.text.specs.Put.{blanks}
 use Rattle.number.specs.Numbers.{numberIn}
 use Rattle.edits.specs.FieldRow.{firstIn, lastIn, noRow}
 use Rattle.pfml_fields.specs.Tiling.{tiles, tiles-none, tiles-first}
-use Rattle.edits.specs.Edit.{Edit, firstBroken}
-use Rattle.edits.specs.EditLaws.{AllFine, fine-all, all-fine, all-append, FirstIn, first-of-list}
+use Rattle.edits.specs.Edit.{Edit, firstBroken, AllFine}
+use Rattle.edits.specs.EditLaws.{fine-all, all-fine, all-append, first-of-list}
 use Rattle.edits.specs.FieldsLabelled.{own-labelled}
-use Rattle.edits.specs.Labels.{AllLabelled, none-labelled, more-labelled, labelled-append}
+use Rattle.edits.specs.Labels.{AllLabelled, FirstIn}
+use Rattle.edits.specs.LabelLaws.{none-labelled, more-labelled, labelled-append}
 use Rattle.edits.specs.Own.{own}
 use Rattle.edits.specs.declared.Landmarks.{Landmarks}
 use Rattle.pfml.specs.Edits.{rowsFor}

@@ -1,5 +1,5 @@
--- The laws of the current quarter: it is the one right after the last closed, after 12 of 9999 there is none; and what each answer of the period test
--- says of a quarter.
+-- Laws: the current quarter is the one right after the last closed, and after 12 of 9999 there is none;
+-- and what each answer of the period test says of a quarter.
 use Prim.Native.Nat.{ℕ, _+_, _*_, _≤_, _<_}
 use mathlib.Core.Bool.{Bool, true, false, false≢true, true≢false}
 use mathlib.Core.Logic.{_⊎_, inl, inr}
@@ -7,7 +7,8 @@ use mathlib.Core.Path.{_≡_, refl, sym}
 use native.Mathlib.Omega.{arith}
 use lib.Dec.{ltb}
 use borrow.Author.Tests.{eqb-true, eq-eqb, ltb-true, ltb-false}
-use Rattle.laws.specs.Choice.{if_then_else_, both-hold}
+use Rattle.laws.specs.Choice.{if_then_else_}
+use Rattle.laws.specs.ChoiceLaws.{both-hold}
 use Rattle.calendar.specs.Quarters.{lastYear, isQuarterMonth, isAfter, isSame, currentQuarter, timingOf, mayReport}
 use Rattle.calendar.specs.Laws.{ComesLater, not-true, quarter-months, after-later, later-after, not-later, neither-after}
 use Rattle.calendar.specs.declared.Quarter.{Quarter}
@@ -55,7 +56,7 @@ module _ (held q : Quarter) where
       (told .0, eqb-true _ _ (both .0), eqb-true _ _ (both .1))
 
 -- ---- the one right after
--- Its year and month: three months on, 03 of the next year behind 12; behind 12 of the last year the quarter itself.
+-- Its year and month: three months on, 03 of the next year after 12; after 12 of the last year the quarter itself.
 abbrev Next : Quarter → Quarter → Type 0
 Next held c =
     ((held .month < 12) × (c .year ≡ held .year) × (c .month ≡ held .month + 3))

@@ -1,4 +1,4 @@
--- Calendar dates, and the quarter that a date lies in.
+-- Definitions: calendar dates, and the quarter that a date lies in.
 use Prim.Native.Nat.{ℕ, _+_, _/_, _%_}
 use mathlib.Core.Bool.{Bool, _&&_}
 use mathlib.Core.List.{[], _∷_}

@@ -1,4 +1,4 @@
--- The laws of quarters: which months and years an allowed one has, and that "after" is an order.
+-- Laws: which months and years an allowed quarter has, and that "after" is an order of quarters.
 use Prim.Native.Nat.{ℕ, _≤_, _<_}
 use mathlib.Core.Bool.{Bool, true, false, _&&_, _||_, false≢true, true≢false}
 use mathlib.Core.Logic.{_⊎_, inl, inr, ⊎-elim}
@@ -7,7 +7,7 @@ use native.Mathlib.Nat.{le-of-eq, le-refl}
 use native.Mathlib.Omega.{arith}
 use lib.Dec.{eqb, leb}
 use borrow.Author.Tests.{eqb-true, ltb-true, ltb-false, lt-ltb, le-ltb, eq-eqb}
-use Rattle.laws.specs.Choice.{both-hold, within}
+use Rattle.laws.specs.ChoiceLaws.{both-hold, within}
 use Rattle.calendar.specs.Quarters.{firstYear, lastYear, isQuarterMonth, isFilingYear, isAllowed, isAfter, timingOf, mayReport, isReportable}
 use Rattle.calendar.specs.declared.Quarter.{Quarter}
 

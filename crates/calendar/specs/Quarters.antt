@@ -1,4 +1,4 @@
--- Quarters: which of them the paper allows, which of two is the later, and how one stands to the last closed.
+-- Definitions: which quarters the paper allows, which of two is the later, and how one stands to the last closed.
 use Prim.Native.Nat.{ℕ, _+_}
 use mathlib.Core.Bool.{Bool, true, false, _&&_, _||_}
 use lib.Dec.{eqb, leb, ltb}

@@ -1,4 +1,4 @@
--- A wage file to try cases on, and changes to it: the paper's own example, "FEIN 012345678, two employees with 1,234.56 and 0.44".
+-- Definitions: a wage file to try cases on, and changes to it: the paper's own example, "FEIN 012345678, two employees with 1,234.56 and 0.44".
 use Prim.Native.Nat.{ℕ, _+_, _-_}
 use Prim.Native.String.{String}
 use mathlib.Core.List.{List, [], _∷_, _++_}

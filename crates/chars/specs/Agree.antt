@@ -1,4 +1,4 @@
--- Lines that agree in some columns: what is asked of these columns alone, both answer alike.
+-- Laws: of two lines that agree in some columns, what is asked of these columns alone is answered alike.
 use Prim.Native.Nat.{ℕ, _+_, _-_, _<_, _≤_}
 use mathlib.Core.Path.{_≡_, refl, sym, _∙_}
 use mathlib.Core.List.{List}

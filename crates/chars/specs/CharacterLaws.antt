@@ -1,4 +1,4 @@
--- The laws of characters that later layers cite.
+-- Laws: what later layers cite of characters.
 use Prim.Native.Nat.{ℕ, zero, suc, _+_, _-_, _<_, _≤_}
 use mathlib.Core.Path.{_≡_, refl, sym, ap, _∙_}
 use mathlib.Core.Bool.{Bool, true, false, _&&_, _||_, false≢true}
@@ -7,7 +7,8 @@ use native.Mathlib.Omega.{arith}
 use lib.Dec.{eqb, leb}
 use lib.ListN.{length, getD, take, drop, length-map, List·getD-map}
 use borrow.Author.Tests.{eqb-true, eqb-false, le-leb, lt-leb, eq-eqb, ne-eqb}
-use Rattle.laws.specs.Choice.{if_then_else_, within}
+use Rattle.laws.specs.Choice.{if_then_else_}
+use Rattle.laws.specs.ChoiceLaws.{within}
 use Rattle.chars.specs.Characters.{isPermitted, capitalOf, capitals, isBlank, isDigit, isLetter, isOfName}
 
 -- A line read in capitals has each of its characters in capitals, and as many.

@@ -1,4 +1,4 @@
--- Characters, and how they are read.
+-- Definitions: characters, and how they are read.
 use Prim.Native.Nat.{ℕ, _-_}
 use mathlib.Core.Bool.{Bool, _&&_, _||_}
 use mathlib.Core.List.{List, map}

@@ -1,4 +1,4 @@
--- The laws of columns, as a loop over a field's columns uses them, and what the columns of a field hold.
+-- Laws: what a loop over a field's columns uses of columns, and what the columns of a field hold.
 use Prim.Native.Nat.{ℕ, _+_, _-_, _<_, _≤_}
 use mathlib.Core.Path.{_≡_, refl}
 use mathlib.Core.Bool.{Bool, true, false}
@@ -17,7 +17,7 @@ use Rattle.chars.specs.Columns.{widthOf, columnTest, allowedTest, everyC
 use Rattle.chars.specs.declared.columns.Allowed.{Allowed}
 use Rattle.chars.specs.declared.columns.Allowed.the-variants.{Anything, Permitted, Blanks, Digits, OfNames}
 
--- The column behind a place stands at that place.
+-- The column after a place stands at that place.
 pub column-of : (allowed : Allowed) (line : List ℕ) (at : ℕ) → allowedTest allowed line (at + 1 - 1) ≡ allowedTest allowed line at
 column-of allowed line at = let e : at + 1 - 1 ≡ at = omega arith in rw e
 

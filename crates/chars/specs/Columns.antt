@@ -1,5 +1,5 @@
--- Columns of a line, counted from 1: column c is place c - 1 of the list of its characters. Behind a line's last column there is no
--- character, told as 0; column 0 is read as column 1.
+-- Definitions: columns of a line, counted from 1: column c is place c - 1 of the list of its characters.
+-- After a line's last column there is no character, told as 0; column 0 is read as column 1.
 use Prim.Native.Nat.{ℕ, _+_, _-_}
 use mathlib.Core.Bool.{Bool, true, false}
 use mathlib.Core.List.{List}

@@ -9,7 +9,8 @@ use native.Mathlib.Omega.{arith}
 use lib.Dec.{eqb, leb}
 use lib.ListN.{length, getD, List·getD-eq-default}
 use borrow.Author.Tests.{eq-eqb, ne-eqb, leb-true, leb-false}
-use Rattle.laws.specs.Choice.{if_then_else_, within}
+use Rattle.laws.specs.Choice.{if_then_else_}
+use Rattle.laws.specs.ChoiceLaws.{within}
 use Rattle.laws.specs.Finding.{Finding, fine, broken, orElse, firstOf}
 use Rattle.chars.specs.Characters.{isPermitted, capitalOf, capitals, isBlank, isDigit, isLetter, isOfName}
 use Rattle.chars.specs.CharacterLaws.{capital-at, capital-is-digit, capital-permitted}
@@ -71,7 +72,7 @@ module _ (test : ℕ → Bool) (line : List ℕ) where
       let place : from + (i - from) ≡ i = omega arith in
       rw width (one-more from (i - from) ∙ rw place)
 
-  -- Behind the line's end a character is told as 0: places that reach there pass a test that 0 fails only where there are none of them.
+  -- After the line's end a character is told as 0: places that reach there pass a test that 0 fails only where there are none of them.
   pub behind-the-end : (from to : ℕ) → test 0 ≡ false → length line < to → leb to from ≡ allPass test line from (to - from)
   behind-the-end from to fails h = by (leb to from) refl where
     by : (none : Bool) → leb to from ≡ none → none ≡ allPass test line from (to - from)

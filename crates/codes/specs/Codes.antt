@@ -1,6 +1,6 @@
--- The codes of Appendix A, and what each stands for.
+-- Definitions: the codes of Appendix A, and what each stands for.
 use Prim.Native.Nat.{ℕ}
-use mathlib.Core.Bool.{Bool, false, _&&_, _||_}
+use mathlib.Core.Bool.{Bool, false, _&&_, _||_, true, not}
 use mathlib.Core.List.{List, [], _∷_}
 use lib.Dec.{eqb}
 use lib.ListN.{getD}
@@ -36,3 +36,8 @@ isAmong a b (code ∷ codes) = isCode a b code || isAmong a b codes
 -- "one of the 64 codes of Appendix A, 50 states, DC and 13 provinces (35)"
 unfoldable pub regionOf : ℕ → ℕ → Region
 regionOf a b = if isAmong a b states then State else if isAmong a b provinces then Province else Unknown
+
+-- No code of the list is among those after it.
+unfoldable pub allDiffer : List (List ℕ) → Bool
+allDiffer [] = true
+allDiffer (code ∷ codes) = not (isAmong (getD code 0 0) (getD code 1 0) codes) && allDiffer codes

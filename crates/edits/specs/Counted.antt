@@ -1,4 +1,4 @@
--- The numbers of the open E and of the file, with some of them set and all others kept.
+-- Definitions: the numbers of the open E and of the file, with some of them set and all others kept.
 use Prim.Native.Nat.{ℕ}
 use Rattle.edits.specs.declared.Open.{Open}
 use Rattle.edits.specs.declared.Totals.{Totals}

@@ -1,4 +1,4 @@
--- An edit, and the first broken one of a list.
+-- Definitions: an edit, the first broken one of a list, and a list with none broken.
 use Prim.Native.Nat.{ℕ}
 use mathlib.Core.Bool.{Bool}
 use mathlib.Core.List.{List, [], _∷_}
@@ -33,3 +33,8 @@ eachColumn number allowed line first last = record { number = number; first = fi
 unfoldable pub firstBroken : List Edit → Finding
 firstBroken [] = fine
 firstBroken (edit ∷ edits) = orElse (edit .finds) (firstBroken edits)
+
+-- Every edit of the list finds nothing.
+abbrev pub AllFine : List Edit → Type 0
+AllFine [] = Unit {0}
+AllFine (edit ∷ edits) = (edit .finds ≡ fine) × AllFine edits

@@ -1,11 +1,12 @@
--- The laws of a list of edits: the first broken one of two lists, a list with none broken, and what makes the finding the first.
+-- Laws: the first broken edit of two lists, a list with none broken, and what makes the finding the first.
 use Prim.Native.Nat.{ℕ}
 use mathlib.Core.Path.{_≡_, refl, sym, ap, _∙_}
 use mathlib.Core.List.{List, [], _∷_, _++_}
 use native.Mathlib.Omega.{arith}
 use Rattle.laws.specs.Finding.{Finding, fine, broken, orElse}
-use Rattle.edits.specs.Edit.{Edit, firstBroken}
-use Rattle.edits.specs.Labels.{ByLabel, AllLabelled, labelled-first}
+use Rattle.edits.specs.Edit.{Edit, firstBroken, AllFine}
+use Rattle.edits.specs.Labels.{ByLabel, AllLabelled, FirstIn}
+use Rattle.edits.specs.LabelLaws.{labelled-first}
 
 -- ---- the first of two findings
 pub or-fine : (f : Finding) → orElse f fine ≡ f
@@ -40,11 +41,6 @@ first-append (edit ∷ edits) b =
     ap (orElse (edit .finds)) (first-append edits b) ∙ sym (or-assoc (edit .finds) (firstBroken edits) (firstBroken b))
 
 -- ---- a list with none broken
--- Every edit of the list finds nothing.
-abbrev pub AllFine : List Edit → Type 0
-AllFine [] = Unit {0}
-AllFine (edit ∷ edits) = (edit .finds ≡ fine) × AllFine edits
-
 pub not-broken : (column number : ℕ) → fine ≡ broken column number → ⊥
 not-broken column number e = let z : _≡_ {A = ℕ} 0 1 = cc in omega arith
 
@@ -72,16 +68,6 @@ pub append-fine : (a b : List Edit) → firstBroken (a ++ b) ≡ fine → (first
 append-fine a b e = both-fine (firstBroken a) (firstBroken b) (sym (first-append a b) ∙ e)
 
 -- ---- the first
--- The finding is that of one edit of the list, told by its label, and none of those before it is broken.
-pub record FirstIn (edits : List Edit) (column number : ℕ) : Type 0 where
-  pub earlier : List Edit
-  pub edit : Edit
-  pub later : List Edit
-  pub stands : edits ≡ earlier ++ (edit ∷ later)
-  pub none-earlier : AllFine earlier
-  pub hit : edit .finds ≡ broken column number
-  pub by-label : ByLabel edit column number
-
 here-first : (edit : Edit) (edits : List Edit) (column number : ℕ) (f : Finding) → edit .finds ≡ f → orElse f (firstBroken edits) ≡ broken column number
     → (edit .finds ≡ broken column number → ByLabel edit column number)
     → (firstBroken edits ≡ broken column number → FirstIn edits column number) → FirstIn (edit ∷ edits) column number

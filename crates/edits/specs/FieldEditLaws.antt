@@ -1,4 +1,4 @@
--- The field loop finds the first broken edit of the list of all fields' edits.
+-- Laws: the field loop finds the first broken edit of the list of all fields' edits.
 use Prim.Native.Nat.{ℕ, zero, suc, _+_, _<_}
 use mathlib.Core.List.{List, [], _∷_, _++_}
 use mathlib.Core.Path.{_≡_, refl, sym, ap, _∙_}
@@ -9,20 +9,20 @@ use lib.ListN.{length, getD}
 use Rattle.laws.specs.Finding.{Finding, fine, orElse, firstOf}
 use Rattle.laws.specs.First.{first-same, first-shift}
 use Rattle.field.specs.Classes.{classOf}
-use Rattle.edits.specs.Edit.{Edit, firstBroken}
-use Rattle.edits.specs.EditLaws.{first-append, AllFine, all-fine, all-append}
+use Rattle.edits.specs.Edit.{Edit, firstBroken, AllFine}
+use Rattle.edits.specs.EditLaws.{first-append, all-fine, all-append}
 use Rattle.edits.specs.FieldRow.{noRow}
 use Rattle.edits.specs.RuleNumbers.{Around, ruleOf}
-use Rattle.edits.specs.Tests.{fieldAt, fieldsTest}
+use Rattle.edits.specs.Tests.{fieldAt, fieldsTest, AllWide}
 use Rattle.edits.specs.FieldEdits.{editsOf, fieldEdits, contextOf, contextEdits}
 use Rattle.edits.specs.Own.{own}
-use Rattle.edits.specs.FieldParts.{Wide, field-parts}
+use Rattle.edits.specs.FieldParts.{field-parts}
 
 -- What the edits of field k find.
 abbrev found : Around → List ℕ → List (List ℕ) → List ℕ → ℕ → Finding
 found a line rows rules k = firstBroken (editsOf a line (getD rows k noRow) (getD rules k 0))
 
--- Behind the first row and its rule the rest is counted from 0 again.
+-- After the first row and its rule the rest is counted from 0 again.
 behind : (a : Around) (line row : List ℕ) (rows : List (List ℕ)) (which : ℕ) (rules : List ℕ) (k : ℕ)
     → found a line (row ∷ rows) (which ∷ rules) (k + 1) ≡ found a line rows rules k
 behind a line row rows which rules k = rw (add-one k)
@@ -49,10 +49,6 @@ in-order a line (row ∷ rows) (which ∷ rules) =
     ∙ in-order a line rows rules in
     ap (orElse (firstBroken (editsOf a line row which))) tail ∙ sym (first-append (editsOf a line row which) (fieldEdits a line rows rules))
 
--- Every row is as wide as its class asks.
-abbrev pub AllWide : List (List ℕ) → Type 0
-AllWide rows = (k : ℕ) → k < length rows → Wide (classOf (getD (getD rows k noRow) 0 0)) (getD (getD rows k noRow) 1 0) (getD (getD rows k noRow) 2 0)
-
 pub fields-parts : (a : Around) (line : List ℕ) (rows : List (List ℕ)) (rules : List ℕ) → AllWide rows
     → fieldsTest a line rows rules ≡ firstBroken (fieldEdits a line rows rules)
 unfolding fieldsTest fieldAt
@@ -70,7 +66,7 @@ pub none-listed : (a : Around) (line rules : List ℕ) → fieldEdits a line [] 
 unfolding fieldEdits
 none-listed a line rules = refl
 
--- A field's edits, then those of the fields behind it.
+-- A field's edits, then those of the fields after it.
 pub fields-cons : (a : Around) (line row : List ℕ) (rows : List (List ℕ)) (which : ℕ) (rules : List ℕ)
     → fieldEdits a line (row ∷ rows) (which ∷ rules) ≡ editsOf a line row which ++ fieldEdits a line rows rules
 unfolding fieldEdits

@@ -1,4 +1,4 @@
--- The edits of a record's fields as one list, field after field.
+-- Definitions: the edits of a record's fields as one list, field after field.
 use Prim.Native.Nat.{ℕ}
 use mathlib.Core.List.{List, [], _∷_, _++_}
 use lib.ListN.{getD}

@@ -1,6 +1,6 @@
--- The laws of a field among others, as a loop over a record's fields uses them.
+-- Laws: a field among others, as a loop over a record's fields uses it; and a rule is found again from its number.
 use Prim.Native.Nat.{ℕ}
-use mathlib.Core.Path.{_≡_}
+use mathlib.Core.Path.{_≡_, refl}
 use mathlib.Core.List.{List}
 use lib.ListN.{getD}
 use Rattle.laws.specs.Finding.{Finding, fine, broken}
@@ -8,9 +8,10 @@ use Rattle.field.specs.Classes.{classOf}
 use Rattle.field.specs.ClassTests.{classTest}
 use Rattle.field.specs.declared.class.Class.{Class}
 use Rattle.edits.specs.FieldRow.{noRow}
-use Rattle.edits.specs.RuleNumbers.{ruleOf, Around}
+use Rattle.edits.specs.RuleNumbers.{ruleOf, Around, ruleList, ruleNumber}
 use Rattle.edits.specs.Tests.{rulesTest, fieldTest, fieldAt}
 use Rattle.edits.specs.declared.Rule.{Rule}
+use Rattle.edits.specs.declared.Rule.the-variants.{Nothing, YearInTime, QuarterInTime, YearOfA, PeriodOfA, FeinNew, FeinOfE, DateInQuarter, IdentityNew, CountOfS, WagesOfS, FileCountOfS, FileCountOfE, FileWagesOfS, FinalIfCurrent}
 
 -- Field k, by its row and its class.
 module _ (a : Around) (line : List ℕ) (rows : List (List ℕ)) (rules : List ℕ) (k : ℕ) (row : List ℕ) (class : Class)
@@ -27,3 +28,22 @@ module _ (a : Around) (line : List ℕ) (rows : List (List ℕ)) (rules : List �
       → fieldAt a line rows rules k ≡ finding
   unfolding fieldAt fieldTest
   class-passes which finding passed ruled found = rw (← here, ← named, passed, ← ruled, ← found)
+
+-- The rule is found again from its number.
+pub rule-again : (which : Rule) → ruleOf (ruleNumber which) ≡ which
+unfolding ruleOf ruleList
+rule-again Nothing = refl
+rule-again YearInTime = refl
+rule-again QuarterInTime = refl
+rule-again YearOfA = refl
+rule-again PeriodOfA = refl
+rule-again FeinNew = refl
+rule-again FeinOfE = refl
+rule-again DateInQuarter = refl
+rule-again IdentityNew = refl
+rule-again CountOfS = refl
+rule-again WagesOfS = refl
+rule-again FileCountOfS = refl
+rule-again FileCountOfE = refl
+rule-again FileWagesOfS = refl
+rule-again FinalIfCurrent = refl

@@ -1,12 +1,12 @@
--- The field as it is tested, the class test and then the rules behind it, is the field's list of edits.
-use Prim.Native.Nat.{ℕ, _-_, _<_, _≤_}
+-- Laws: the field as it is tested, the class test and then the rules after it, is the field's list of edits.
+use Prim.Native.Nat.{ℕ}
 use mathlib.Core.Path.{_≡_, refl, sym, ap, _∙_}
 use mathlib.Core.Bool.{Bool, true, false}
 use mathlib.Core.List.{List, _++_}
 use lib.Dec.{eqb}
 use Rattle.laws.specs.Choice.{if_then_else_}
 use Rattle.laws.specs.Finding.{fine, orElse, findingIn, Reading, value, refused}
-use Rattle.chars.specs.Columns.{widthOf, everyColumn}
+use Rattle.chars.specs.Columns.{everyColumn}
 use Rattle.chars.specs.ColumnLaws.{every-anything}
 use Rattle.chars.specs.declared.columns.Allowed.the-variants.{Anything, Digits}
 use Rattle.number.specs.Numbers.{numberIn, valueOf, valueIn}
@@ -22,35 +22,9 @@ use Rattle.edits.specs.EditLaws.{or-fine, or-assoc, or-same, first-appen
 use Rattle.edits.specs.Own.{isFinal, ceaseEdits, own}
 use Rattle.edits.specs.WithContext.{withContext}
 use Rattle.edits.specs.RuleNumbers.{Around}
-use Rattle.edits.specs.Tests.{ceaseRules, ceaseIn, ceaseTest, thirdQuarterTest, ownRest, rulesTest, fieldTest}
+use Rattle.edits.specs.Tests.{ceaseRules, ceaseIn, ceaseTest, thirdQuarterTest, ownRest, rulesTest, fieldTest, Readable, Wide}
 use Rattle.edits.specs.declared.Landmarks.{Landmarks}
 use Rattle.edits.specs.declared.Rule.{Rule}
-
--- The columns may read as a number: there is one, and there are at most 19.
-abbrev pub Readable : ℕ → ℕ → Type 0
-Readable first last = (first - 1 < last) × (widthOf first last ≤ 19)
-
--- What a class asks of its columns: that they may read as a number, where a rule behind the class test looks at the value.
-abbrev pub Wide : Class → ℕ → ℕ → Type 0
-Wide TaxYear first last = Readable first last
-Wide EmployerFein first last = Readable first last
-Wide IdentityNumber first last = Readable first last
-Wide CeaseDate first last = Readable first last
-Wide Ignored first last = Unit {0}
-Wide RecordLetter first last = Unit {0}
-Wide BlankSpace first last = Unit {0}
-Wide Numeric first last = Unit {0}
-Wide AccountNumber first last = Unit {0}
-Wide Flag first last = Unit {0}
-Wide ThirdQuarterFlag first last = Unit {0}
-Wide Period first last = Unit {0}
-Wide RequiredText first last = Unit {0}
-Wide OptionalText first last = Unit {0}
-Wide PersonName first last = Unit {0}
-Wide EntityCode first last = Unit {0}
-Wide StateCode first last = Unit {0}
-Wide ZipCode first last = Unit {0}
-Wide ZipExtension first last = Unit {0}
 
 -- ---- the own edits of a class
 -- "Exceptions: E 173-182 may be ten blanks;"
@@ -67,7 +41,7 @@ cease-rules true false date first e = rw (e, or-fine)
 cease-rules false true date first e = rw e
 cease-rules false false date first e = rw e
 
--- The rules of a date behind its digits: by its reading, then of the columns.
+-- The rules of a date after its digits: by its reading, then of the columns.
 cease-reading : (final : Bool) (first : ℕ) (r : Reading) → ceaseIn final first r ≡ orElse (findingIn r) (ceaseRules final (valueOf r) first)
 cease-reading final first (value date) = refl
 cease-reading final first (refused column number) = refl

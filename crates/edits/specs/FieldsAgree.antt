@@ -1,4 +1,4 @@
--- The edits of fields in two lines that agree in the fields' columns.
+-- Laws: the edits of fields in two lines that agree in the fields' columns.
 use Prim.Native.Nat.{ℕ, _+_, _-_}
 use mathlib.Core.List.{List, [], _∷_}
 use mathlib.Core.Path.{_≡_}
@@ -8,12 +8,14 @@ use Rattle.chars.specs.declared.columns.Allowed.the-variants.{Blanks, Digits}
 use Rattle.number.specs.NumberLaws.{value-alike}
 use Rattle.rules.specs.RuleLaws.{period-alike}
 use Rattle.text.specs.TextLaws.{pattern-alike}
-use Rattle.field.specs.Classes.{classNumber, class-again}
+use Rattle.field.specs.Classes.{classNumber}
+use Rattle.field.specs.ClassLaws.{class-again}
 use Rattle.field.specs.declared.class.Class.{Class}
 use Rattle.field.specs.declared.class.Class.the-variants.{BlankSpace, Numeric, Period, EntityCode, TaxYear}
 use Rattle.edits.specs.Edit.{firstBroken}
 use Rattle.edits.specs.EditLaws.{first-append}
-use Rattle.edits.specs.RuleNumbers.{Around, ruleNumber, rule-again}
+use Rattle.edits.specs.RuleNumbers.{Around, ruleNumber}
+use Rattle.edits.specs.FieldLaws.{rule-again}
 use Rattle.edits.specs.FieldEdits.{fieldEdits}
 use Rattle.edits.specs.FieldEditLaws.{fields-cons}
 use Rattle.edits.specs.Own.{own}

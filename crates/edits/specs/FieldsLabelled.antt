@@ -1,4 +1,4 @@
--- What an edit of a field finds is told by its label.
+-- Laws: what an edit of a field finds is told by its label.
 use Prim.Native.Nat.{ℕ}
 use mathlib.Core.Path.{refl}
 use mathlib.Core.List.{List, [], _∷_}
@@ -11,7 +11,8 @@ use Rattle.text.specs.TextLaws.{entity-labelled, state-labelled, zip-labelled, 
 use Rattle.field.specs.Classes.{classOf}
 use Rattle.field.specs.declared.class.Class.{Class}
 use Rattle.field.specs.declared.class.Class.the-variants.{Ignored, RecordLetter, BlankSpace, Numeric, AccountNumber, Flag, ThirdQuarterFlag, Period, RequiredText, OptionalText, PersonName, EntityCode, StateCode, ZipCode, ZipExtension, TaxYear, EmployerFein, IdentityNumber, CeaseDate}
-use Rattle.edits.specs.Labels.{AllLabelled, none-labelled, more-labelled, labelled-append}
+use Rattle.edits.specs.Labels.{AllLabelled}
+use Rattle.edits.specs.LabelLaws.{none-labelled, more-labelled, labelled-append}
 use Rattle.edits.specs.Own.{own}
 use Rattle.edits.specs.WithContext.{ruleEdits, withContext}
 use Rattle.edits.specs.RuleNumbers.{Around, ruleOf}

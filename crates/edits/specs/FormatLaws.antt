@@ -1,7 +1,7 @@
--- What holds of an opening that is not refused, when one is not, and that a format which is PFML by its test is PFML.
+-- Laws: what holds of an opening that is not refused, when one is not, and that a format which is PFML by its test is PFML.
 use mathlib.Core.Bool.{true, false≢true}
 use mathlib.Core.Path.{_≡_, refl}
-use Rattle.laws.specs.Choice.{both-hold}
+use Rattle.laws.specs.ChoiceLaws.{both-hold}
 use Rattle.calendar.specs.Quarters.{isAllowed}
 use Rattle.calendar.specs.declared.Quarter.{Quarter}
 use Rattle.edits.specs.Formats.{isKnown, isPfml, quarterHeld, openingWith, mayOpen}

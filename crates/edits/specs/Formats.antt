@@ -1,4 +1,4 @@
--- The formats of wage files, the numbers by which callers name them, and what a walk is opened with.
+-- Definitions: the formats of wage files, the numbers by which callers name them, and what a walk is opened with.
 use Prim.Native.Nat.{ℕ}
 use mathlib.Core.Bool.{Bool, true, false, _&&_, _||_}
 use lib.Dec.{eqb}
@@ -39,7 +39,7 @@ openingWith format quarter = record { format = format; year = quarter .year; mon
 unfoldable pub mayOpen : Opening → Bool
 mayOpen held = isAllowed (quarterHeld held) && isKnown (held .format)
 
--- The number of a refused opening: "70: bad quarter at opening"; behind it 73, a format's number that names none.
+-- The number of a refused opening: "70: bad quarter at opening"; after it 73, a format's number that names none.
 abbrev pub openingNumber : Opening → ℕ
 openingNumber held = if isAllowed (quarterHeld held) then 73 else 70
 

@@ -3,6 +3,7 @@ pub mod FormatLaws
 pub mod Counted
 pub mod Edit
 pub mod Labels
+pub mod LabelLaws
 pub mod EditLaws
 pub mod Own
 pub mod WithContext

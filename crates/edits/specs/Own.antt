@@ -1,4 +1,4 @@
--- The edits of a field by itself and by other fields of the same record: what the paper asks of it whatever stands on other lines.
+-- Definitions: the edits of a field by itself and by other fields of the same record: what the paper asks of it whatever stands on other lines.
 use Prim.Native.Nat.{ℕ}
 use mathlib.Core.Bool.{Bool, not, _&&_, _||_}
 use mathlib.Core.List.{List, [], _∷_, _++_}

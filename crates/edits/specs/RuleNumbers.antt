@@ -1,6 +1,5 @@
--- The rules of fields by their numbers, and what stands around a record's fields.
+-- Definitions: the rules of fields by their numbers, and what stands around a record's fields.
 use Prim.Native.Nat.{ℕ}
-use mathlib.Core.Path.{_≡_, refl}
 use mathlib.Core.List.{List, [], _∷_}
 use lib.ListN.{getD}
 use Rattle.edits.specs.declared.Context.{Context}
@@ -34,25 +33,6 @@ ruleNumber FileCountOfS = 11
 ruleNumber FileCountOfE = 12
 ruleNumber FileWagesOfS = 13
 ruleNumber FinalIfCurrent = 14
-
--- The rule is found again from its number.
-pub rule-again : (which : Rule) → ruleOf (ruleNumber which) ≡ which
-unfolding ruleOf ruleList
-rule-again Nothing = refl
-rule-again YearInTime = refl
-rule-again QuarterInTime = refl
-rule-again YearOfA = refl
-rule-again PeriodOfA = refl
-rule-again FeinNew = refl
-rule-again FeinOfE = refl
-rule-again DateInQuarter = refl
-rule-again IdentityNew = refl
-rule-again CountOfS = refl
-rule-again WagesOfS = refl
-rule-again FileCountOfS = refl
-rule-again FileCountOfE = refl
-rule-again FileWagesOfS = refl
-rule-again FinalIfCurrent = refl
 
 -- What stands around a record's fields: the columns that its rules look at, the entity code, the context and what was seen.
 pub record Around : Type 0 where

@@ -1,5 +1,6 @@
 -- Follows the code; need not be believed. A field as it is tested: its class test, its own rules, its context, in this order; and the first broken field.
-use Prim.Native.Nat.{ℕ}
+-- Then how wide a field has to be for the test to find what the field's list of edits finds.
+use Prim.Native.Nat.{ℕ, _-_, _<_, _≤_}
 use mathlib.Core.Bool.{Bool}
 use mathlib.Core.List.{List}
 use lib.Dec.{eqb}
@@ -7,7 +8,7 @@ use lib.ListN.{length, getD}
 use Rattle.laws.specs.Choice.{if_then_else_}
 use Rattle.laws.specs.Finding.{Finding, fine, broken, orElse, firstOf, findingIn, Reading, value, refused}
 use Rattle.calendar.specs.Dates.{isDate}
-use Rattle.chars.specs.Columns.{unless}
+use Rattle.chars.specs.Columns.{unless, widthOf}
 use Rattle.number.specs.Numbers.{numberIn, valueIn}
 use Rattle.rules.specs.Rules.{yearIn, periodIn, flagIn, feinIn, identityIn}
 use Rattle.text.specs.Text.{entityTest}
@@ -42,7 +43,7 @@ unfoldable pub thirdQuarterTest : Landmarks → List ℕ → ℕ → Finding
 thirdQuarterTest landmarks line first =
     if eqb (valueIn line (landmarks .«period_first») (landmarks .«period_last»)) 9 then findingIn (flagIn line first) else fine
 
--- The own rules behind the class test, as the readers of the field crates find them.
+-- The own rules after the class test, as the readers of the field crates find them.
 abbrev pub ownRest : Landmarks → List ℕ → Class → List ℕ → ℕ → ℕ → Finding
 ownRest landmarks code Ignored line first last = fine
 ownRest landmarks code RecordLetter line first last = fine
@@ -64,7 +65,7 @@ ownRest landmarks code EmployerFein line first last = findingIn (feinIn line fir
 ownRest landmarks code IdentityNumber line first last = findingIn (identityIn line first last)
 ownRest landmarks code CeaseDate line first last = ceaseTest landmarks line first last
 
--- The rules of a field behind its class test: its own, then those of the context.
+-- The rules of a field after its class test: its own, then those of the context.
 unfoldable pub rulesTest : Around → List ℕ → Class → Rule → ℕ → ℕ → Finding
 rulesTest a line class which first last =
     orElse (ownRest (a .landmarks) (a .code) class line first last) (firstBroken (withContext which (a .landmarks) (a .here) (a .seen) line first last))
@@ -80,3 +81,33 @@ fieldAt a line rows rules k =
 -- "the first broken column of the first broken field"
 unfoldable pub fieldsTest : Around → List ℕ → List (List ℕ) → List ℕ → Finding
 fieldsTest a line rows rules = firstOf (fieldAt a line rows rules) 0 (length rows)
+
+-- The columns may read as a number: there is one, and there are at most 19.
+abbrev pub Readable : ℕ → ℕ → Type 0
+Readable first last = (first - 1 < last) × (widthOf first last ≤ 19)
+
+-- What a class asks of its columns: that they may read as a number, where a rule after the class test looks at the value.
+abbrev pub Wide : Class → ℕ → ℕ → Type 0
+Wide TaxYear first last = Readable first last
+Wide EmployerFein first last = Readable first last
+Wide IdentityNumber first last = Readable first last
+Wide CeaseDate first last = Readable first last
+Wide Ignored first last = Unit {0}
+Wide RecordLetter first last = Unit {0}
+Wide BlankSpace first last = Unit {0}
+Wide Numeric first last = Unit {0}
+Wide AccountNumber first last = Unit {0}
+Wide Flag first last = Unit {0}
+Wide ThirdQuarterFlag first last = Unit {0}
+Wide Period first last = Unit {0}
+Wide RequiredText first last = Unit {0}
+Wide OptionalText first last = Unit {0}
+Wide PersonName first last = Unit {0}
+Wide EntityCode first last = Unit {0}
+Wide StateCode first last = Unit {0}
+Wide ZipCode first last = Unit {0}
+Wide ZipExtension first last = Unit {0}
+
+-- Every row is as wide as its class asks.
+abbrev pub AllWide : List (List ℕ) → Type 0
+AllWide rows = (k : ℕ) → k < length rows → Wide (classOf (getD (getD rows k noRow) 0 0)) (getD (getD rows k noRow) 1 0) (getD (getD rows k noRow) 2 0)

@@ -1,4 +1,4 @@
--- The edits of a field that look at other records, at the quarter held or at the room that is left.
+-- Definitions: the edits of a field that look at other records, at the quarter held or at the room that is left.
 use Prim.Native.Nat.{ℕ}
 use mathlib.Core.Bool.{Bool, not, _&&_, _||_}
 use mathlib.Core.List.{List, [], _∷_}

@@ -10,7 +10,8 @@ use lib.Dec.{eqb, leb, ltb}
 use lib.ListN.{length, take, drop, length-drop, length-set}
 use lib.Seq.{take-all}
 use borrow.Author.Tests.{ltb-true, lt-ltb, lt-leb, eqb-true, eqb-false, not-true}
-use Rattle.laws.specs.Choice.{if_then_else_, both-hold}
+use Rattle.laws.specs.Choice.{if_then_else_}
+use Rattle.laws.specs.ChoiceLaws.{both-hold}
 use Rattle.lines.specs.Lines.{firstLine}
 use Rattle.chars.specs.Characters.{capitals}
 use Rattle.edits.specs.FormatLaws.{pfml-is}

@@ -1,4 +1,4 @@
--- The laws of the class test.
+-- Laws: the class test, as a loop over a field's columns uses it; and a class is found again from its number.
 use Prim.Native.Nat.{ℕ, _-_}
 use mathlib.Core.Path.{_≡_, refl}
 use mathlib.Core.List.{List}
@@ -8,6 +8,8 @@ use Rattle.chars.specs.ColumnLaws.{every-says}
 use Rattle.chars.specs.declared.columns.Allowed.{Allowed}
 use Rattle.field.specs.ClassTests.{leadTest, allowedIn, classTest}
 use Rattle.field.specs.declared.class.Class.{Class}
+use Rattle.field.specs.declared.class.Class.the-variants.{Ignored, RecordLetter, BlankSpace, Numeric, AccountNumber, Flag, ThirdQuarterFlag, Period, RequiredText, OptionalText, PersonName, EntityCode, StateCode, ZipCode, ZipExtension, TaxYear, EmployerFein, IdentityNumber, CeaseDate}
+use Rattle.field.specs.Classes.{classes, classOf, classNumber}
 
 pub class-says : (class : Class) (line : List ℕ) (first last : ℕ)
     → classTest class line first last ≡ orElse (leadTest class line first last) (everyColumn (allowedIn class line first last) line first last)
@@ -22,7 +24,7 @@ module _ (class : Class) (line : List ℕ) (first last : ℕ) where
   unfolding classTest
   lead-breaks column number hit = rw hit
 
-  -- Behind a text that passes as a whole, the class test is that of the columns.
+  -- After a text that passes as a whole, the class test is that of the columns.
   pub lead-passes : (allowed : Allowed) (at : ℕ) → leadTest class line first last ≡ fine → allowed ≡ allowedIn class line first last
       → at ≡ first - 1 → classTest class line first last ≡ firstOf (allowedTest allowed line) at (last - at)
   unfolding classTest
@@ -32,3 +34,26 @@ module _ (class : Class) (line : List ℕ) (first last : ℕ) where
       → classTest class line first last ≡ everyColumn allowed line first last
   unfolding classTest
   lead-leaves allowed passed holds = rw (passed, holds)
+
+-- The class is found again from its number.
+pub class-again : (class : Class) → classOf (classNumber class) ≡ class
+unfolding classOf classes
+class-again Ignored = refl
+class-again RecordLetter = refl
+class-again BlankSpace = refl
+class-again Numeric = refl
+class-again AccountNumber = refl
+class-again Flag = refl
+class-again ThirdQuarterFlag = refl
+class-again Period = refl
+class-again RequiredText = refl
+class-again OptionalText = refl
+class-again PersonName = refl
+class-again EntityCode = refl
+class-again StateCode = refl
+class-again ZipCode = refl
+class-again ZipExtension = refl
+class-again TaxYear = refl
+class-again EmployerFein = refl
+class-again IdentityNumber = refl
+class-again CeaseDate = refl

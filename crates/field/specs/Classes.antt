@@ -1,6 +1,5 @@
--- The classes of fields, and their numbers in a list of fields. What each asks is `own` (crate `edits`).
+-- Definitions: the classes of fields, and their numbers in a list of fields. What each asks is `own` (crate `edits`).
 use Prim.Native.Nat.{ℕ}
-use mathlib.Core.Path.{_≡_, refl}
 use mathlib.Core.List.{List, [], _∷_}
 use lib.ListN.{getD}
 use Rattle.field.specs.declared.class.Class.{Class}
@@ -35,26 +34,3 @@ classNumber TaxYear = 15
 classNumber EmployerFein = 16
 classNumber IdentityNumber = 17
 classNumber CeaseDate = 18
-
--- The class is found again from its number.
-pub class-again : (class : Class) → classOf (classNumber class) ≡ class
-unfolding classOf classes
-class-again Ignored = refl
-class-again RecordLetter = refl
-class-again BlankSpace = refl
-class-again Numeric = refl
-class-again AccountNumber = refl
-class-again Flag = refl
-class-again ThirdQuarterFlag = refl
-class-again Period = refl
-class-again RequiredText = refl
-class-again OptionalText = refl
-class-again PersonName = refl
-class-again EntityCode = refl
-class-again StateCode = refl
-class-again ZipCode = refl
-class-again ZipExtension = refl
-class-again TaxYear = refl
-class-again EmployerFein = refl
-class-again IdentityNumber = refl
-class-again CeaseDate = refl

@@ -1,18 +1,13 @@
--- The first byte of an acknowledgement tells acceptance from refusal: 01 and 00 begin with 0, FF with F.
-use Prim.Native.Nat.{ℕ}
+-- Laws: the first byte of an acknowledgement tells acceptance from refusal: 01 and 00 begin with 0, FF with F.
 use mathlib.Core.List.{List, [], _∷_}
 use mathlib.Core.Path.{_≡_, refl, sym, ap, _∙_}
 use native.Mathlib.Omega.{arith}
-use lib.ListN.{getD}
 use Rattle.reason.specs.ReasonNumbers.{Notice}
 use Rattle.edits.specs.declared.Totals.{Totals}
 use Rattle.tables.specs.declared.Employer.{Employer}
 use Rattle.meaning.specs.Meaning.{accepted, refused}
-use Rattle.frames.specs.Frames.{employerFrames, framesOf}
+use Rattle.frames.specs.Frames.{employerFrames, framesOf, firstByte}
 use Rattle.frames.specs.Hex.{hexDigit, hex}
-
-abbrev pub firstByte : List ℕ → ℕ
-firstByte output = getD output 0 0
 
 pub accepted-begins : (entries : List Employer) (totals : Totals) → firstByte (framesOf (accepted entries totals)) ≡ 48
 unfolding employerFrames hex hexDigit

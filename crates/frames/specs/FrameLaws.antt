@@ -1,4 +1,4 @@
--- The laws of frames: how many bytes they are, how a loop writes them, and what a call writes for a walk that stands for a file's meaning.
+-- Laws: how many bytes frames are, how a loop writes them, and what a call writes for a walk that stands for a file's meaning.
 use Prim.Native.Nat.{ℕ, _+_, _*_, _^_, _≤_, _<_}
 use mathlib.Core.Bool.{true, false, false≢true}
 use mathlib.Core.List.{List, [], _∷_, _++_, append-assoc, append-nil}
@@ -10,7 +10,8 @@ use lib.Seq.{take-suc, length-take-le}
 use borrow.Author.Tests.{lt-ltb, le-ltb}
 use Rattle.reason.specs.ReasonNumbers.{Notice}
 use Rattle.edits.specs.declared.Totals.{Totals}
-use Rattle.tables.specs.Pad.{pad, take-pad}
+use Rattle.tables.specs.Pad.{pad}
+use Rattle.tables.specs.PadLaws.{take-pad}
 use Rattle.tables.specs.Tables.{noEmployer}
 use Rattle.tables.specs.declared.Employer.{Employer}
 use Rattle.meaning.specs.Meaning.{Outcome, accepted, refused}
@@ -20,11 +21,7 @@ use Rattle.state.specs.Walks.{Standing, Walk}
 use Rattle.frames.specs.Hex.{hex}
 use Rattle.frames.specs.HexLaws.{hex-length, hex-low}
 use Rattle.frames.specs.Frames.{lineEnd, employerFrame, employerFrames, closingFrame, refusalFrame, framesOf, bound, written, untouched, fitted, isAccepted, standingFrames, roomWithout, framing}
-use Rattle.frames.specs.Pasted.{pasted, pasted-none, pasted-one, pasted-front, pasted-length, pasted-behind, then-pasted}
-
--- A frame of its kind and three numbers, of 4, 4 and 8 bytes: an employer's and the closing one are such.
-abbrev pub threeNumbers : ℕ → ℕ → ℕ → ℕ → List ℕ
-threeNumbers kind a b cents = hex 2 kind ++ hex 8 a ++ hex 8 b ++ hex 16 cents ++ lineEnd
+use Rattle.frames.specs.Pasted.{pasted, pasted-none, pasted-one, pasted-front, pasted-length, pasted-behind, then-pasted, threeNumbers}
 
 -- ---- lengths
 three-length : (kind a b cents : ℕ) → length (threeNumbers kind a b cents) ≡ 35

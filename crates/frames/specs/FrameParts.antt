@@ -1,4 +1,5 @@
--- Follows the code; need not be believed. The frames in two parts, as the code writes them: those of the employers, for which it needs the list, and then the last one.
+-- Follows the code; need not be believed. The frames in two parts, as the code writes them: those of the employers,
+-- for which it needs the list, and then the last one.
 use Prim.Native.Nat.{ℕ, _+_, _*_, _≤_}
 use mathlib.Core.Bool.{Bool, true, false}
 use mathlib.Core.List.{List, _++_}
@@ -27,7 +28,7 @@ acceptedSize all = 35 * all .employers + 35
 abbrev pub acceptedEmployers : Totals → ℕ → ℕ
 acceptedEmployers all size = if ltb size (acceptedSize all) then 0 else all .employers
 
--- The closing frame behind those of the employers.
+-- The closing frame after those of the employers.
 abbrev pub acceptedLast : Totals → List ℕ → Framing
 acceptedLast all out =
     if ltb (length out) (acceptedSize all)

@@ -1,9 +1,9 @@
--- The frames of an acknowledgement. "Output: lines of hexadecimal in capitals, one frame a line, LF, numbers big-endian."
+-- Definitions: the frames of an acknowledgement. "Output: lines of hexadecimal in capitals, one frame a line, LF, numbers big-endian."
 use Prim.Native.Nat.{ℕ, _+_, _*_}
 use mathlib.Core.Bool.{Bool, true, false}
 use mathlib.Core.List.{List, [], _∷_, _++_}
 use lib.Dec.{ltb}
-use lib.ListN.{length, take, drop}
+use lib.ListN.{length, take, drop, getD}
 use Rattle.laws.specs.Choice.{if_then_else_}
 use Rattle.reason.specs.ReasonNumbers.{Notice}
 use Rattle.edits.specs.declared.Totals.{Totals}
@@ -108,3 +108,6 @@ framing walk list out =
     if unfit (roomWithout walk list) walk
     then untouched 72 out
     else standingFrames walk list out (walk .standing)
+
+abbrev pub firstByte : List ℕ → ℕ
+firstByte output = getD output 0 0

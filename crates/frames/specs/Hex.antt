@@ -1,4 +1,4 @@
--- Numbers in hexadecimal: capitals, the highest digit first.
+-- Definitions: numbers in hexadecimal: capitals, the highest digit first.
 use Prim.Native.Nat.{ℕ, zero, suc, _+_, _/_, _%_}
 use mathlib.Core.List.{List, [], _∷_, _++_}
 use lib.Dec.{ltb}

@@ -1,4 +1,4 @@
--- The laws of numbers in hexadecimal: as many bytes as digits, and how a loop from the last digit down writes them.
+-- Laws: a number in hexadecimal has as many bytes as digits; and how a loop from the last digit down writes them.
 use Prim.Native.Nat.{ℕ, zero, suc, _+_, _*_, _-_, _/_, _%_, _^_, _<_, _≤_}
 use mathlib.Core.List.{List}
 use mathlib.Core.Path.{_≡_, refl, ap, _∙_}

@@ -1,4 +1,4 @@
--- Follows the code; need not be believed. Bytes over a part of a buffer, and the laws of writing one part behind the other.
+-- Follows the code; need not be believed. Bytes over a part of a buffer, and the laws of writing one part after the other; a frame of three numbers.
 use Prim.Native.Nat.{ℕ, suc, _+_, _≤_, _<_}
 use mathlib.Core.List.{List, [], _∷_, _++_, append-assoc, append-nil}
 use mathlib.Core.Path.{_≡_, ap, _∙_}
@@ -7,6 +7,8 @@ use native.Mathlib.Numerals.{add-one}
 use native.Mathlib.Omega.{arith}
 use lib.ListN.{length, take, drop, set, length-append, length-take, length-drop, take-append-drop}
 use lib.Seq.{length-take-le, take-at, drop-at, drop-append-add, drop-drop, set-split, take-set-le, append-snoc}
+use Rattle.frames.specs.Hex.{hex}
+use Rattle.frames.specs.Frames.{lineEnd}
 
 -- The buffer with these bytes from a place on, where they fit.
 unfoldable pub pasted : ℕ → List ℕ → List ℕ → List ℕ
@@ -30,7 +32,7 @@ module _ (out : List ℕ) where
   unfolding pasted
   pasted-length at bytes h = simp (length-append, length-take, length-drop) (omega arith)
 
-  -- One part behind the other.
+  -- One part after the other.
   pasted-next : (at n : ℕ) (a b : List ℕ) → length a ≡ n → at ≤ length out → pasted (at + n) b (pasted at a out) ≡ pasted at (a ++ b) out
   unfolding pasted
   pasted-next at n a b e h =
@@ -41,7 +43,7 @@ module _ (out : List ℕ) where
       rw (← width, drop-append-add, drop-drop, length-append, e, ← add-assoc) in
       rw (take-at front rest (at + n) width, behind, append-assoc (take at out) a b)
 
-  -- As the code comes by it: behind what stands at the front, and from one buffer to the next.
+  -- As the code comes by it: after what stands at the front, and from one buffer to the next.
   pub pasted-behind : (n : ℕ) (a b : List ℕ) → length a ≡ n → pasted n b (pasted 0 a out) ≡ pasted 0 (a ++ b) out
   pasted-behind n a b e = rw (← zero-add n) (pasted-next 0 n a b e (omega arith))
 
@@ -58,3 +60,7 @@ module _ (out : List ℕ) where
       let here : drop (at + n) (set out (at + n) b) ≡ rest =
       rw (set-split out (at + n) b h, drop-at (take (at + n) out) rest (at + n) (length-take-le (at + n) out (omega arith))) in
       rw (take-set-le at out (at + n) b (omega arith), e, here, place, ← append-assoc, append-snoc)
+
+-- A frame of its kind and three numbers, of 4, 4 and 8 bytes: an employer's and the closing one are such.
+abbrev pub threeNumbers : ℕ → ℕ → ℕ → ℕ → List ℕ
+threeNumbers kind a b cents = hex 2 kind ++ hex 8 a ++ hex 8 b ++ hex 16 cents ++ lineEnd

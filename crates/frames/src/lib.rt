@@ -13,9 +13,8 @@ ghost use Rattle.reason.specs.ReasonNumbers.{noticeOf};
 ghost use Rattle.tables.specs.Room.{mostEmployers};
 ghost use Rattle.state.specs.Walks.{walkOf, standingOf};
 ghost use Rattle.frames.specs.Hex.{hexDigit, hex};
-ghost use Rattle.frames.specs.Pasted.{pasted};
+ghost use Rattle.frames.specs.Pasted.{pasted, threeNumbers};
 ghost use Rattle.frames.specs.Frames.{employerFrame, employerFrames, refusalFrame, framedBy, fitted, isAccepted, framing};
-ghost use Rattle.frames.specs.FrameLaws.{threeNumbers};
 ghost use Rattle.frames.specs.FrameParts.{acceptedSize, acceptedEmployers, acceptedLast, employersFramed, lastFraming};
 
 // The bytes written; or why none is: the state is unfit (72, which a list shorter than the employers makes it too), the walk has not ended, the

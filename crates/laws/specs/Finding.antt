@@ -1,5 +1,6 @@
--- What an edit finds, and what a field reads as, in the paper's own numbers.
-use Prim.Native.Nat.{ℕ, zero, suc, _+_}
+-- Definitions: what an edit finds, what a field reads as, in the paper's own numbers, and the first broken one of some edits.
+use Prim.Native.Nat.{ℕ, zero, suc, _+_, _<_}
+use mathlib.Core.Path.{_≡_}
 
 -- Nothing, or a broken edit: the column, and the number that the paper gives the reason.
 pub data Finding : Type 0 where
@@ -25,3 +26,10 @@ firstOf edit i (suc n) = orElse (edit i) (firstOf edit (i + 1) n)
 abbrev pub findingIn : Reading → Finding
 findingIn (value v) = fine
 findingIn (refused column number) = broken column number
+
+-- Number i + at is broken with this finding, and none of those before it is broken.
+pub record IsFirst (edit : ℕ → Finding) (i n column number : ℕ) : Type 0 where
+  pub at : ℕ
+  pub in-range : at < n
+  pub hit : edit (i + at) ≡ broken column number
+  pub none-before : (k : ℕ) → k < at → edit (i + k) ≡ fine

@@ -1,9 +1,9 @@
--- The laws of `firstOf`: what a loop over the edits i to end uses, and what makes its answer the first.
+-- Laws: what a loop over the edits i to end uses of `firstOf`, and what makes its answer the first.
 use Prim.Native.Nat.{ℕ, zero, suc, _+_, _-_, _<_, _≤_}
 use mathlib.Core.Path.{_≡_, refl, sym, _∙_}
 use native.Mathlib.Nat.{add-zero}
 use native.Mathlib.Omega.{arith}
-use Rattle.laws.specs.Finding.{Finding, fine, broken, orElse, firstOf}
+use Rattle.laws.specs.Finding.{Finding, fine, broken, orElse, firstOf, IsFirst}
 use Rattle.laws.specs.LoopSteps.{left-suc, left-none}
 
 -- ---- a loop's steps
@@ -21,13 +21,6 @@ module _ (edit : ℕ → Finding) (i end : ℕ) where
   first-found h column number hit = rw (left-suc end i h, hit)
 
 -- ---- the first
--- Number i + at is broken with this finding, and none of those before it is broken.
-pub record IsFirst (edit : ℕ → Finding) (i n column number : ℕ) : Type 0 where
-  pub at : ℕ
-  pub in-range : at < n
-  pub hit : edit (i + at) ≡ broken column number
-  pub none-before : (k : ℕ) → k < at → edit (i + k) ≡ fine
-
 pub not-broken : (column number : ℕ) → fine ≡ broken column number → ⊥
 not-broken column number e = let z : _≡_ {A = ℕ} 0 1 = cc in omega arith
 

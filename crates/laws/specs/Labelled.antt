@@ -1,4 +1,4 @@
--- What is found bears its label: a number, and the columns that it may be told with.
+-- Laws: what is found bears its label: a number, and the columns that it may be told with.
 use Prim.Native.Nat.{ℕ, _≤_}
 use mathlib.Core.Bool.{Bool, true, false}
 use mathlib.Core.Path.{_≡_}

@@ -1,4 +1,5 @@
 pub mod Choice
+pub mod ChoiceLaws
 pub mod Finding
 pub mod First
 pub mod Labelled

@@ -1,4 +1,4 @@
--- The laws of lists that several crates cite.
+-- Laws: what several crates cite of lists.
 use Prim.Native.Nat.{ℕ, zero, suc, _-_, _≤_, _<_}
 use mathlib.Core.List.{List, [], _∷_}
 use mathlib.Core.Path.{_≡_, refl}

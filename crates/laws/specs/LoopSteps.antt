@@ -1,4 +1,4 @@
--- How many steps a loop has left, and what the next one leaves.
+-- Laws: how many steps a loop has left, and what the next one leaves.
 use Prim.Native.Nat.{ℕ, suc, _+_, _-_, _<_, _≤_}
 use mathlib.Core.Path.{_≡_}
 use native.Mathlib.Omega.{arith}

@@ -1,4 +1,4 @@
--- A text's characters as numbers.
+-- Definitions: a text's characters as numbers.
 use Prim.Native.Nat.{ℕ}
 use Prim.Native.String.{String, [], _∷_}
 use Prim.Native.Char.{code}

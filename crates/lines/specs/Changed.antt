@@ -1,4 +1,5 @@
--- The lines of a file with some of their characters changed: no line moves, and files whose changed lines make the same bytes have the same changed lines.
+-- Laws: the lines of a file with some of their characters changed: no line moves,
+-- and files whose changed lines make the same bytes have the same changed lines.
 use Prim.Native.Nat.{ℕ, zero, suc, _-_, _<_}
 use mathlib.Core.Bool.{Bool, true, false, _||_}
 use mathlib.Core.List.{List, [], _∷_, _++_, map, map-append, append-assoc}
@@ -10,17 +11,7 @@ use lib.Seq.{take-append-seam, drop-at}
 use Rattle.laws.specs.Choice.{if_then_else_}
 use Rattle.lines.specs.Lines.{Line, isEnd, textOf, lineFeed, endOf, firstLine, sizeOf, linesFrom, linesOf, joined}
 use Rattle.lines.specs.Laws.{text-in-front, size-positive, lines-cons, lines-joined}
-
--- No byte of a text is an end.
-abbrev pub hasNoEnd : List ℕ → Type 0
-hasNoEnd [] = Unit {0}
-hasNoEnd (b ∷ text) = (isEnd b ≡ false) × hasNoEnd text
-
--- Lines may be changed without moving any: a change that keeps how long a text is, brings no end into it and leaves the ends alone.
-pub record Keeps (change : Line → Line) : Type 0 where
-  pub long : (line : Line) → length (change line .text) ≡ length (line .text)
-  pub ends : (line : Line) → change line .ending ≡ line .ending
-  pub no-end : (line : Line) → hasNoEnd (line .text) → hasNoEnd (change line .text)
+use Rattle.lines.specs.HiddenPlaces.{hasNoEnd, Keeps}
 
 -- A character that stays or gives way to a blank is no end.
 pub blank-no-end : (blank : Bool) (b : ℕ) → isEnd b ≡ false → isEnd (if blank then 32 else b) ≡ false

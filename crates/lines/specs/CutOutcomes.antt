@@ -1,4 +1,4 @@
--- The four outcomes of cutting a line, and what is known of a line that is taken.
+-- Laws: the four outcomes of cutting a line, and what is known of a line that is taken.
 use Prim.Native.Nat.{ℕ, _+_, _≤_, _<_, min}
 use mathlib.Core.Bool.{Bool, true, false}
 use mathlib.Core.Logic.{_⊎_, inl, inr}
@@ -84,7 +84,7 @@ pub cut-parts : (n : ℕ) (line : Line) → findingIn (cutting n line) ≡ orEls
 unfolding cutting lengthTest endTest
 cut-parts n line = in-parts (eqb (length (line .text)) n) (eqb (length (line .ending)) 0) (sizeOf line) (min (length (line .text) + 1) (beyond n)) (beyond n)
 
--- ---- the labels of the refusals: 1 at a column up to the one behind the last, 2 at that one
+-- ---- the labels of the refusals: 1 at a column up to the one after the last, 2 at that one
 module _ (n : ℕ) (line : Line) where
   pub length-labelled : Labelled 1 1 (beyond n) (lengthTest n line)
   unfolding lengthTest

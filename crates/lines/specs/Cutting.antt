@@ -1,4 +1,4 @@
--- Cutting a line that is to have n characters and an end.
+-- Definitions: cutting a line that is to have n characters and an end.
 use Prim.Native.Nat.{ℕ, _+_, min}
 use lib.Dec.{eqb}
 use lib.ListN.{length}
@@ -9,7 +9,7 @@ use Rattle.lines.specs.Lines.{Line, sizeOf}
 use Rattle.lines.specs.declared.Cut.{Cut}
 use Rattle.lines.specs.declared.Cut.the-variants.{Taken, Refused}
 
--- The column behind the last, 291 for 290. Columns are told in two bytes: a length of 65,535 leaves none behind it, and 65,535 is told.
+-- The column after the last, 291 for 290. Columns are told in two bytes: a length of 65,535 leaves none after it, and 65,535 is told.
 abbrev pub beyond : ℕ → ℕ
 beyond n = min (n + 1) 65535
 

@@ -1,4 +1,5 @@
--- Files that are equal but for hidden columns of the first one's lines have lines that are changed alike; and files whose lines are changed alike are equal so.
+-- Laws: files that are equal but for hidden columns of the first one's lines have lines that are changed alike;
+-- and files whose lines are changed alike are equal so.
 use Prim.Native.Nat.{ℕ, zero, suc, _+_, _-_, _≤_, _<_}
 use mathlib.Core.Bool.{Bool, true, false, false≢true}
 use mathlib.Core.List.{List, [], _∷_, map}
@@ -8,8 +9,8 @@ use borrow.Author.Tests.{lt-ltb, le-ltb, ltb-true, ltb-false}
 use lib.Dec.{ltb}
 use lib.ListN.{length, getD, drop, length-drop, length-map, length-append, List·getD-eq-default, List·getD-append, List·getD-map}
 use lib.Seq.{getD-drop, getD-append-add, ext-getD}
-use Rattle.lines.specs.Changed.{hasNoEnd, Keeps, text-no-end, onlyEnd, outline, alike-cut, bytesOf}
-use Rattle.lines.specs.HiddenPlaces.{hiddenIn, hidden, EqualBut, Hides, MayHold}
+use Rattle.lines.specs.Changed.{text-no-end, onlyEnd, outline, alike-cut, bytesOf}
+use Rattle.lines.specs.HiddenPlaces.{hiddenIn, hidden, EqualBut, Hides, MayHold, hasNoEnd, Keeps}
 use Rattle.lines.specs.Laws.{text-at, size-positive, lines-nil, lines-cons, lines-joined}
 use Rattle.lines.specs.Lines.{Line, isEnd, textOf, firstLine, sizeOf, linesOf, joined}
 
@@ -17,7 +18,7 @@ use Rattle.lines.specs.Lines.{Line, isEnd, textOf, firstLine, sizeOf, li
 abbrev firstSize : List ℕ → ℕ
 firstSize s = sizeOf (firstLine s)
 
--- What holds of no bytes, and of bytes wherever it holds behind their first line, holds of every file.
+-- What holds of no bytes, and of bytes wherever it holds after their first line, holds of every file.
 by-lines : (P : List ℕ → Type 0) → P [] → ((s : List ℕ) → 0 < length s → P (drop (firstSize s) s) → P s) → (s : List ℕ) → P s
 by-lines P none more s = within (length s) s (omega arith) where
   within : (n : ℕ) (s : List ℕ) → length s ≤ n → P s
@@ -28,7 +29,7 @@ by-lines P none more s = within (length s) s (omega arith) where
       let some = size-positive (b ∷ s) (omega arith) in
       more (b ∷ s) (omega arith) (within n (drop (firstSize (b ∷ s)) (b ∷ s)) (rw (length-drop (firstSize (b ∷ s)) (b ∷ s)) (omega arith)))
 
--- A place is one of the first n, or behind them.
+-- A place is one of the first n, or after them.
 by-place : (n : ℕ) (P : ℕ → Type 0) → ((at : ℕ) → at < n → P at) → ((at : ℕ) → P (n + at)) → (at : ℕ) → P at
 by-place n P among behind at = by (ltb at n) refl where
   by : (t : Bool) → ltb at n ≡ t → P at
@@ -44,7 +45,7 @@ none-at [] none at h = absurd (omega arith)
 none-at (b ∷ text) none zero h = none .0
 none-at (b ∷ text) none (suc at) h = none-at text (none .1) at (omega arith)
 
--- ---- a place in the first of some lines, or behind it
+-- ---- a place in the first of some lines, or after it
 module _ (line : Line) (lines : List Line) where
   sized : length (bytesOf line) ≡ sizeOf line
   sized = length-append (line .text) (line .ending)
@@ -103,7 +104,7 @@ module _ (hides : Line → ℕ → Bool) where
 
 -- ---- two files
 module _ (hides : Line → ℕ → Bool) (may : ℕ → Bool) where
-  -- What is equal but for hidden columns is so behind the first line,
+  -- What is equal but for hidden columns is so after the first line,
   equal-behind : (one other : List ℕ) → 0 < length one → EqualBut hides may one other
       → EqualBut hides may (drop (firstSize one) one) (drop (firstSize one) other)
   equal-behind one other some equal =

@@ -1,4 +1,4 @@
--- Columns that are hidden on the lines of a file, told by places of the file, and two files of equal bytes elsewhere.
+-- Definitions: columns that are hidden on the lines of a file, told by places of the file; two files of equal bytes elsewhere; and changes of lines.
 use Prim.Native.Nat.{ℕ, _+_, _-_, _≤_}
 use mathlib.Core.Bool.{Bool, true, false}
 use mathlib.Core.List.{List, [], _∷_}
@@ -6,7 +6,7 @@ use mathlib.Core.Path.{_≡_}
 use lib.Dec.{ltb}
 use lib.ListN.{length, getD}
 use Rattle.laws.specs.Choice.{if_then_else_}
-use Rattle.lines.specs.Lines.{Line, sizeOf, linesOf}
+use Rattle.lines.specs.Lines.{Line, sizeOf, linesOf, isEnd}
 
 -- `hides` tells of a line which of its columns are hidden, counted from 1. A place of some lines, counted from 0 over all their characters and ends, is hidden
 -- where its column of its line is.
@@ -37,3 +37,14 @@ pub record Hides (hides : Line → ℕ → Bool) (change : Line → Line) : Type
 abbrev pub MayHold : (Line → ℕ → Bool) → (ℕ → Bool) → List Line → Type 0
 MayHold hides may [] = Unit {0}
 MayHold hides may (line ∷ lines) = ((at : ℕ) → hides line (at + 1) ≡ true → may (getD (line .text) at 0) ≡ true) × MayHold hides may lines
+
+-- No byte of a text is an end.
+abbrev pub hasNoEnd : List ℕ → Type 0
+hasNoEnd [] = Unit {0}
+hasNoEnd (b ∷ text) = (isEnd b ≡ false) × hasNoEnd text
+
+-- Lines may be changed without moving any: a change that keeps how long a text is, brings no end into it and leaves the ends alone.
+pub record Keeps (change : Line → Line) : Type 0 where
+  pub long : (line : Line) → length (change line .text) ≡ length (line .text)
+  pub ends : (line : Line) → change line .ending ≡ line .ending
+  pub no-end : (line : Line) → hasNoEnd (line .text) → hasNoEnd (change line .text)

@@ -1,4 +1,4 @@
--- The laws of lines: the lines joined are the file, and behind a line comes the file from where it ended.
+-- Laws: the lines joined are the file, and after a line comes the file from where it ended.
 use Prim.Native.Nat.{ℕ, zero, suc, _+_, _-_, _≤_, _<_}
 use mathlib.Core.Bool.{Bool, true, false, _||_, false≢true}
 use mathlib.Core.List.{List, [], _∷_, _++_}
@@ -126,7 +126,7 @@ drop-size : (n b : ℕ) (s : List ℕ) → 1 ≤ n → drop (n - 1) s ≡ drop n
 drop-size zero b s h = absurd (omega arith)
 drop-size (suc n) b s h = rw sub-one
 
--- Behind a line comes the file from where it ended.
+-- After a line comes the file from where it ended.
 pub lines-cons : (s : List ℕ) → 0 < length s → linesOf s ≡ firstLine s ∷ linesOf (drop (sizeOf (firstLine s)) s)
 unfolding linesFrom
 lines-cons [] h = absurd (omega arith)

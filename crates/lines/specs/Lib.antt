@@ -2,10 +2,12 @@ pub mod Lines
 pub mod Cutting
 pub mod Laws
 pub mod CutOutcomes
+pub mod Lent
 pub mod Window
 pub mod Once
 pub mod Changed
 pub mod HiddenPlaces
 pub mod HiddenPlaceLaws
+pub mod LineEnds
 pub mod MadeLines
 pub mod Looking

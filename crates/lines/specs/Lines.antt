@@ -1,4 +1,4 @@
--- The lines of a file.
+-- Definitions: the lines of a file.
 use Prim.Native.Nat.{ℕ, zero, suc, _+_, _-_}
 use mathlib.Core.Bool.{Bool, _||_}
 use mathlib.Core.List.{List, [], _∷_, _++_}

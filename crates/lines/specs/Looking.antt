@@ -1,4 +1,5 @@
--- Looking for the end of the first line: what a line still has at a place, and whether it is shorter than so many bytes.
+-- Follows the code; need not be believed. Looking for the end of the first line: what was found, as a number;
+-- and the laws of what a line still has at a place, and of whether it is shorter than so many bytes.
 use Prim.Native.Nat.{ℕ, zero, suc, _+_, _≤_, _<_}
 use mathlib.Core.Bool.{Bool, true, false, not, _||_}
 use mathlib.Core.List.{List, [], _∷_}

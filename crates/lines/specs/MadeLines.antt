@@ -1,4 +1,4 @@
--- A line that is made: characters, an end, and any bytes behind.
+-- Laws: a line that is made of characters and an end, with any bytes after it, is read back as that line.
 use Prim.Native.Nat.{ℕ, zero, suc, _+_, _<_, _≤_}
 use mathlib.Core.Bool.{Bool, true, false, _||_}
 use mathlib.Core.List.{List, [], _∷_, _++_}
@@ -13,17 +13,7 @@ use Rattle.laws.specs.Finding.{value}
 use Rattle.lines.specs.Cutting.{cutting}
 use Rattle.lines.specs.Lines.{isEnd, textOf, lineFeed, endOf, firstLine, sizeOf}
 use Rattle.lines.specs.CutOutcomes.{takes}
-
--- "LF, CR, or CR followed at once by LF"
-pub data LineEnd : Type 0 where
-  LF : LineEnd
-  CR : LineEnd
-  CRLF : LineEnd
-
-abbrev pub endBytes : LineEnd → List ℕ
-endBytes LF = 10 ∷ []
-endBytes CR = 13 ∷ []
-endBytes CRLF = 13 ∷ 10 ∷ []
+use Rattle.lines.specs.LineEnds.{LineEnd, endBytes, LF, CR, CRLF}
 
 pub no-end-at : (b : ℕ) → 13 < b → isEnd b ≡ false
 unfolding isEnd

@@ -1,8 +1,9 @@
--- Only the first n + 2 bytes matter to a line that is to have n characters, 292 for 290: a call that is lent them answers as if it were lent all that remains.
+-- Laws: only the first n + 2 bytes matter to a line that is to have n characters, 292 for 290:
+-- a call that is lent them answers as if it were lent all that remains.
 use Prim.Native.Nat.{ℕ, zero, suc, _+_, _-_, _≤_, _<_}
 use mathlib.Core.Bool.{Bool, true, false}
 use mathlib.Core.List.{List, [], _∷_}
-use mathlib.Core.Logic.{_⊎_, inl, inr}
+use mathlib.Core.Logic.{inl, inr}
 use mathlib.Core.Path.{_≡_, refl, sym, ap, _∙_}
 use native.Mathlib.Nat.{sub-zero, zero-sub, suc-sub-suc}
 use native.Mathlib.Omega.{arith}
@@ -14,6 +15,7 @@ use Rattle.laws.specs.Choice.{if_then_else_}
 use Rattle.lines.specs.Cutting.{cutting}
 use Rattle.lines.specs.Lines.{isEnd, textOf, endOf, firstLine}
 use Rattle.lines.specs.CutOutcomes.{too-long}
+use Rattle.lines.specs.Lent.{Lent}
 
 -- ---- a part in front of the bytes
 text-take : (m : ℕ) (s : List ℕ) → textOf (take m s) ≡ take m (textOf s)
@@ -59,15 +61,11 @@ module _ (n m : ℕ) (s : List ℕ) where
         let still : n < length (textOf (take m s)) = rw (text-take m s, length-take m (textOf s)) (omega arith) in
         too-long n (firstLine (take m s)) still ∙ sym (too-long n (firstLine s) long)
 
-  -- "all that remains, or at least 292 bytes": m bytes are lent of those that remain, s.
-  abbrev pub Lent : Type 0
-  Lent = (n + 2 ≤ m) ⊎ (length s ≤ m)
-
   -- A call that is lent so many answers as if it were lent all that remains.
-  pub lent-alike : Lent → cutting n (firstLine (take m s)) ≡ cutting n (firstLine s)
+  pub lent-alike : Lent n m s → cutting n (firstLine (take m s)) ≡ cutting n (firstLine s)
   lent-alike (inl h) = window-cut h
   lent-alike (inr h) = rw (take-all m s h)
 
-  pub lent-line : Lent → length (textOf s) ≤ n → firstLine (take m s) ≡ firstLine s
+  pub lent-line : Lent n m s → length (textOf s) ≤ n → firstLine (take m s) ≡ firstLine s
   lent-line (inl h) short = window-line h short
   lent-line (inr h) short = rw (take-all m s h)

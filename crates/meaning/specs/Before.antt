@@ -1,5 +1,5 @@
--- What the records before a line come to: all that the line is judged by. `p` is always the records before, the nearest first; what one record makes of each
--- thing is in `After` (crate shape).
+-- Definitions: what the records before a line come to: all that the line is judged by.
+-- `p` is always the records before, the nearest first; what one record makes of each thing is in `After` (crate shape).
 use Prim.Native.Nat.{ℕ}
 use mathlib.Core.List.{List, [], _∷_, _++_}
 use Rattle.calendar.specs.declared.Quarter.{Quarter}

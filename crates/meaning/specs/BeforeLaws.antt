@@ -1,4 +1,4 @@
--- The employer list's entries: one for each E record, with its FEIN.
+-- Laws: the employer list's entries: one for each E record, with its FEIN.
 use Prim.Native.Nat.{ℕ, _+_}
 use mathlib.Core.List.{List, [], _∷_, _++_}
 use mathlib.Core.Path.{_≡_, refl, ap, _∙_}

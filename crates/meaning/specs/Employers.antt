@@ -1,4 +1,4 @@
--- The employers and the totals of an accepted file are those of its records, read forwards.
+-- Laws: the employers and the totals of an accepted file are those of its records, read forwards.
 use Prim.Native.Nat.{ℕ, _+_}
 use mathlib.Core.List.{List, [], _∷_, _++_, map, reverseAux, append-nil}
 use mathlib.Core.Logic.{_⊎_, inl, inr}
@@ -45,7 +45,7 @@ InPlace phase OfT = phase ≡ EOpen
 InPlace phase OfF = phase ≡ AfterT
 InPlace phase OfNone = ⊥
 
--- The records to come, in file order, stand each in its place behind those before; F is the last.
+-- The records to come, in file order, stand each in its place after those before; F is the last.
 abbrev Placed : List Said → List Said → Type 0
 Placed p [] = phaseIn p ≡ AfterF
 Placed p (said ∷ records) = InPlace (phaseIn p) said × Placed (said ∷ p) records

@@ -1,4 +1,4 @@
--- The laws of a file's meaning: what its end says, what a line that is refused says, and that a line which passes leaves the rest to say it.
+-- Laws: what the end of a file says, what a line that is refused says, and that a line which passes leaves the rest to say it.
 use Prim.Native.Nat.{ℕ, _+_}
 use mathlib.Core.List.{List, [], _∷_, _++_, map, reverseAux, append-nil}
 use mathlib.Core.Path.{_≡_, refl, sym, ap, _∙_}
@@ -21,7 +21,7 @@ use Rattle.meaning.specs.Before.{phaseIn}
 use Rattle.meaning.specs.Meaning.{contextAt, onEarlierE, underThisE, editsAt, judgeAt, LineEdit, onLine, editsFrom, FileFinding, nothing, found, foundOn, orFound, firstOfFile, recordsOnto, outcomeBy, refused, meaningFrom}
 
 -- ---- the first broken edit
--- Nothing is behind the end.
+-- Nothing comes after the end.
 or-nothing : (f : FileFinding) → orFound f nothing ≡ f
 or-nothing nothing = refl
 or-nothing (found line column number) = refl
@@ -31,7 +31,7 @@ found-or : (line : ℕ) (a b : Finding) (next : FileFinding) → orFound (foundO
 found-or line fine b next = refl
 found-or line (broken column number) b next = refl
 
--- The first broken edit of a line's edits and those behind them.
+-- The first broken edit of a line's edits and those after them.
 first-on : (line : ℕ) (edits : List Edit) (rest : List LineEdit)
     → firstOfFile (onLine line edits ++ rest) ≡ orFound (foundOn line (firstBroken edits)) (firstOfFile rest)
 unfolding firstOfFile
@@ -40,7 +40,7 @@ first-on line (edit ∷ edits) rest =
     ap (orFound (foundOn line (edit .finds))) (first-on line edits rest)
     ∙ sym (rw (first-cons edit edits) (found-or line (edit .finds) (firstBroken edits) (firstOfFile rest)))
 
--- The same with nothing behind them.
+-- The same with nothing after them.
 first-alone : (line : ℕ) (edits : List Edit) → firstOfFile (onLine line edits) ≡ foundOn line (firstBroken edits)
 unfolding firstOfFile
 first-alone line edits =
@@ -71,7 +71,7 @@ module _ (room : Room) (held : Opening) (p : List Said) where
 
   -- ---- a line, then the others
   module _ (line : Line) (lines : List Line) where
-    -- What is found behind this line.
+    -- What is found after this line.
     abbrev behind : FileFinding
     behind = firstOfFile (editsFrom room held (recordOn (held .format) line ∷ p) lines)
 
@@ -99,7 +99,7 @@ module _ (room : Room) (held : Opening) (p : List Said) where
           let same-number : n ≡ number = cc in
           cc
 
-    -- A line that passes leaves it to the lines behind, with its record before them.
+    -- A line that passes leaves it to the lines after it, with its record before them.
     pub meaning-goes-on : (taken : ℕ) (said : Said) → judgeAt room held p line ≡ passed taken said
         → meaningFrom room held p (line ∷ lines) ≡ meaningFrom room held (said ∷ p) lines
     meaning-goes-on taken said e =

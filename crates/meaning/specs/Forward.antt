@@ -1,4 +1,4 @@
--- The employers once more, read forwards: for each E record the S records right after it, their number and the sum of their wages.
+-- Definitions: the employers once more, read forwards: for each E record the S records right after it, their number and the sum of their wages.
 use Prim.Native.Nat.{ℕ, _+_}
 use mathlib.Core.List.{List, [], _∷_, map}
 use lib.ListN.{length}

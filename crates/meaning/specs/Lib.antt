@@ -3,5 +3,6 @@ pub mod BeforeLaws
 pub mod Meaning
 pub mod Forward
 pub mod FileLaws
+pub mod BrokenEdits
 pub mod Theorems
 pub mod Employers

@@ -1,4 +1,4 @@
--- What a file means: the first broken edit of all its edits in the stated order, or the employers with their totals.
+-- Definitions: what a file means: the first broken edit of all its edits in the stated order, or the employers with their totals.
 use Prim.Native.Nat.{ℕ, _+_}
 use mathlib.Core.Bool.{Bool}
 use mathlib.Core.List.{List, [], _∷_, _++_}

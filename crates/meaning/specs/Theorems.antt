@@ -1,4 +1,4 @@
--- accepted-iff and first-is-first, of a whole file.
+-- Laws: accepted-iff and first-is-first, of a whole file.
 use Prim.Native.Nat.{ℕ, _+_}
 use mathlib.Core.List.{List, [], _∷_, _++_, map}
 use mathlib.Core.Path.{_≡_, refl, sym, ap}
@@ -8,7 +8,8 @@ use Rattle.laws.specs.Finding.{Finding, fine, broken}
 use Rattle.reason.specs.ReasonNumbers.{Notice, notice}
 use Rattle.lines.specs.Lines.{Line, linesOf}
 use Rattle.edits.specs.Edit.{Edit}
-use Rattle.edits.specs.Labels.{ByLabel, AllLabelled, labelled-append, labelled-first}
+use Rattle.edits.specs.Labels.{ByLabel, AllLabelled}
+use Rattle.edits.specs.LabelLaws.{labelled-append, labelled-first}
 use Rattle.edits.specs.declared.Opening.{Opening}
 use Rattle.edits.specs.declared.Totals.{Totals}
 use Rattle.record.specs.Judge.{recordOn}
@@ -19,13 +20,9 @@ use Rattle.tables.specs.Room.{Room}
 use Rattle.tables.specs.declared.Employer.{Employer}
 use Rattle.meaning.specs.Before.{phaseIn, totalsIn, entriesIn}
 use Rattle.meaning.specs.Meaning.{contextAt, editsAt, LineEdit, onLine, editsFrom, fileEdits, FileFinding, nothing, found, foundOn, orFound, firstOfFile, recordsOnto, accepted, refused, outcomeBy, meaning}
+use Rattle.meaning.specs.BrokenEdits.{NoneBroken, FirstBroken}
 
 -- ---- a list with none broken
--- Every edit of the list finds nothing.
-abbrev pub NoneBroken : List LineEdit → Type 0
-NoneBroken [] = Unit {0}
-NoneBroken (e ∷ edits) = (e .edit .finds ≡ fine) × NoneBroken edits
-
 -- Nothing is not something, and accepted is not refused.
 not-found : (line column number : ℕ) → nothing ≡ found line column number → ⊥
 not-found line column number e = let z : _≡_ {A = ℕ} 0 1 = cc in omega arith
@@ -39,7 +36,7 @@ unfolding firstOfFile
 none-found [] none = refl
 none-found (e ∷ edits) none = rw (none .0) (none-found edits (none .1))
 
--- Where an edit and those behind it find nothing, each finds nothing.
+-- Where an edit and those after it find nothing, each finds nothing.
 both-nothing : (line : ℕ) (f : Finding) (next : FileFinding) → orFound (foundOn line f) next ≡ nothing → (f ≡ fine) × (next ≡ nothing)
 both-nothing line fine next e = (refl, e)
 both-nothing line (broken column number) next e = absurd (not-found line column number (sym e))
@@ -71,19 +68,7 @@ file-labelled room held p (line ∷ lines) =
     (labelled-append these (withoutLines rest) (line-labelled (contextAt room held p) _ line) (file-labelled room held (recordOn (held .format) line ∷ p) lines))
 
 -- ---- the first
--- The notice is that of one edit of the list, told by its label: its number, and a column from its first to its last, the first unless the number
--- names a column. None of those before it is broken.
-pub record FirstBroken (edits : List LineEdit) (says : Notice) : Type 0 where
-  pub earlier : List LineEdit
-  pub edit : LineEdit
-  pub later : List LineEdit
-  pub stands : edits ≡ earlier ++ (edit ∷ later)
-  pub none-earlier : NoneBroken earlier
-  pub on-line : edit .line ≡ says .line
-  pub hit : edit .edit .finds ≡ broken (says .column) (says .number)
-  pub by-label : ByLabel (edit .edit) (says .column) (says .number)
-
--- The first edit is broken, or it is one behind it.
+-- The first edit is broken, or it is one after it.
 here-first : (this : LineEdit) (edits : List LineEdit) (says : Notice) (f : Finding) → this .edit .finds ≡ f
     → orFound (foundOn (this .line) f) (firstOfFile edits) ≡ found (says .line) (says .column) (says .number)
     → (this .edit .finds ≡ broken (says .column) (says .number) → ByLabel (this .edit) (says .column) (says .number))

@@ -1,4 +1,4 @@
--- A number read from the characters as they stand: nothing becomes a digit in capitals, and no digit changes.
+-- Laws: a number read from the characters as they stand: nothing becomes a digit in capitals, and no digit changes.
 use Prim.Native.Nat.{ℕ, _+_, _-_, _*_, _<_, _≤_}
 use mathlib.Core.Path.{_≡_, refl, sym, _∙_}
 use mathlib.Core.Bool.{Bool, true, false}
@@ -19,7 +19,7 @@ module _ (line : List ℕ) (v at end : ℕ) (h : at < end) where
       → numberFrom (capitals line) v at (end - at) ≡ numberFrom (capitals line) (v * 10 + (getD line at 0 - 48)) (at + 1) (end - (at + 1))
   stands-more d = number-more (capitals line) v at end (getD line at 0) (sym (capital-at line at ∙ capital-of-digit (getD line at 0) d)) h d
 
-  -- Behind the line's end there is no digit.
+  -- After the line's end there is no digit.
   pub none-stands : length line ≤ at → numberFrom (capitals line) v at (end - at) ≡ refused (at + 1) 30
   none-stands past = stands-bad (rw (List·getD-eq-default line 0 past) (by (isDigit 0) refl))
     where

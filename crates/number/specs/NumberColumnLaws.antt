@@ -1,4 +1,4 @@
--- The columns of a number: writing one leaves all other columns, and a number of a given width stands in its columns in one way only.
+-- Laws: writing a number leaves all other columns, and a number of a given width stands in its columns in one way only.
 use Prim.Native.Nat.{ℕ, zero, suc, _+_, _-_, _*_, _<_, _≤_}
 use mathlib.Core.Path.{_≡_, refl, sym, ap, _∙_}
 use mathlib.Core.List.{List}
@@ -21,7 +21,7 @@ module _ (line : List ℕ) (first last v : ℕ) where
   unfolding putNumber
   put-number-length = put-length (widthOf first last) line last v
 
-  -- Every column before and behind the number's stays as it was.
+  -- Every column before and after the number's stays as it was.
   pub put-number-elsewhere : first - 1 ≤ last → (j : ℕ) → (j < first - 1) ⊎ (last ≤ j) → getD (putNumber line first last v) j 0 ≡ getD line j 0
   unfolding putNumber
   put-number-elsewhere h j (inl before) = put-untouched (widthOf first last) line last v j (omega arith) (inl (omega arith))

@@ -1,4 +1,4 @@
--- The laws of numbers: how a loop over the columns reads one, that one of n digits is below 10 to the n, and that what was written is read back.
+-- Laws: how a loop over the columns reads a number, that one of n digits is below 10 to the n, and that what was written is read back.
 use Prim.Native.Nat.{ℕ, zero, suc, _+_, _-_, _*_, _/_, _%_, _^_, _<_, _≤_}
 use mathlib.Core.Path.{_≡_, refl, sym, ap, _∙_}
 use mathlib.Core.Bool.{Bool, true, false, _||_}
@@ -143,7 +143,7 @@ module _ (line : List ℕ) (from at v : ℕ) where
   put-more h = let e : at - from ≡ suc (at - 1 - from) = omega arith in rw e
 
 -- ---- reading back
--- Before and behind the places that are written the line is as it was.
+-- Before and after the places that are written the line is as it was.
 pub put-untouched : (n : ℕ) (line : List ℕ) (end v j : ℕ) → n ≤ end → (j + n < end) ⊎ (end ≤ j) → getD (putDigits line end n v) j 0 ≡ getD line j 0
 unfolding putDigits
 put-untouched zero line end v j l h = refl

@@ -1,4 +1,4 @@
--- A number read from a field, and written into one: one rule for all widths.
+-- Definitions: a number read from a field, and written into one: one rule for all widths.
 use Prim.Native.Nat.{ℕ, zero, suc, _+_, _-_, _*_, _/_, _%_}
 use mathlib.Core.List.{List}
 use mathlib.Core.Bool.{_||_}

@@ -1,4 +1,4 @@
--- A promise in the paper's numbers leaves room for one answer.
+-- Laws: a promise in the paper's numbers leaves room for one answer.
 use Prim.Native.Nat.{ℕ}
 use mathlib.Core.Path.{_≡_, sym}
 use native.Mathlib.Omega.{arith}

@@ -11,13 +11,14 @@ use Rattle.chars.specs.declared.columns.Allowed.the-variants.{Blanks, OfNames}
 use Rattle.number.specs.Numbers.{valueIn}
 use Rattle.rules.specs.Rules.{periodIn, mayBeFiled}
 use Rattle.text.specs.Text.{allBlank, isIndented, entityTest}
-use Rattle.field.specs.Classes.{class-again}
+use Rattle.field.specs.ClassLaws.{class-again}
 use Rattle.field.specs.declared.class.Class.the-variants.{RecordLetter, BlankSpace, Numeric, PersonName, EntityCode, TaxYear, IdentityNumber, Period}
 use Rattle.pfml_fields.specs.Fields.{fieldsOfS}
 use Rattle.pfml_fields.specs.Rows.{rows-of-S}
 use Rattle.edits.specs.Edit.{Edit, atFirst, rule, eachColumn, firstBroken}
 use Rattle.edits.specs.EditLaws.{first-one, first-append}
-use Rattle.edits.specs.RuleNumbers.{Around, rule-again}
+use Rattle.edits.specs.RuleNumbers.{Around}
+use Rattle.edits.specs.FieldLaws.{rule-again}
 use Rattle.edits.specs.FieldEdits.{fieldEdits}
 use Rattle.edits.specs.FieldEditLaws.{none-listed, fields-cons}
 use Rattle.edits.specs.Own.{digitsEdit}

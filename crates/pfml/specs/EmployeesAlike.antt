@@ -7,7 +7,7 @@ use native.Mathlib.Omega.{arith}
 use lib.Dec.{eqb, leb}
 use lib.ListN.{getD}
 use borrow.Author.Tests.{leb-true, le-leb, lt-leb, eqb-true}
-use Rattle.laws.specs.Choice.{both-hold}
+use Rattle.laws.specs.ChoiceLaws.{both-hold}
 use Rattle.laws.specs.Finding.{fine, orElse}
 use Rattle.laws.specs.Spelling.{bytes}
 use Rattle.chars.specs.Agree.{Agree, each-alike, column-alike}

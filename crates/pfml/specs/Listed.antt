@@ -8,11 +8,12 @@ use mathlib.Core.Path.{_≡_, refl, ap, _∙_}
 use lib.Dec.{leb}
 use Rattle.lines.specs.Lines.{Line}
 use Rattle.chars.specs.Characters.{capitals}
-use Rattle.field.specs.Classes.{class-again}
+use Rattle.field.specs.ClassLaws.{class-again}
 use Rattle.field.specs.declared.class.Class.the-variants.{RecordLetter, BlankSpace, Numeric, AccountNumber, Flag, ThirdQuarterFlag, Period, RequiredText, OptionalText, PersonName, EntityCode, StateCode, ZipCode, ZipExtension, TaxYear, EmployerFein, IdentityNumber, CeaseDate}
 use Rattle.pfml_fields.specs.Fields.{fieldsOfA, fieldsOfE, fieldsOfS, fieldsOfT, fieldsOfF}
 use Rattle.edits.specs.Edit.{Edit}
-use Rattle.edits.specs.RuleNumbers.{Around, rule-again}
+use Rattle.edits.specs.RuleNumbers.{Around}
+use Rattle.edits.specs.FieldLaws.{rule-again}
 use Rattle.edits.specs.FieldEdits.{fieldEdits}
 use Rattle.edits.specs.FieldEditLaws.{none-listed, fields-cons}
 use Rattle.edits.specs.declared.Context.{Context}

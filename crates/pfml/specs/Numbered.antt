@@ -4,10 +4,11 @@ use mathlib.Core.Bool.{Bool, true, _&&_}
 use mathlib.Core.List.{List, [], _∷_, _++_}
 use mathlib.Core.Logic.{_⊎_, inl, inr}
 use mathlib.Core.Path.{_≡_, refl, subst}
-use Rattle.laws.specs.Choice.{both-hold}
+use Rattle.laws.specs.ChoiceLaws.{both-hold}
 use Rattle.laws.specs.Finding.{broken}
 use Rattle.edits.specs.Edit.{Edit, firstBroken}
-use Rattle.edits.specs.EditLaws.{FirstIn, first-of-list}
+use Rattle.edits.specs.EditLaws.{first-of-list}
+use Rattle.edits.specs.Labels.{FirstIn}
 use Rattle.edits.specs.declared.Context.{Context}
 use Rattle.edits.specs.declared.Seen.{Seen}
 use Rattle.pfml.specs.Edits.{textEdits}

@@ -7,7 +7,7 @@ use native.Mathlib.Omega.{arith}
 use lib.Dec.{ltb, leb}
 use lib.ListN.{getD}
 use borrow.Author.Tests.{ltb-true, ltb-false}
-use Rattle.laws.specs.Choice.{within}
+use Rattle.laws.specs.ChoiceLaws.{within}
 use Rattle.laws.specs.Finding.{fine}
 use Rattle.lines.specs.Lines.{Line}
 use Rattle.chars.specs.Agree.{each-fine}
@@ -16,8 +16,8 @@ use Rattle.chars.specs.CharacterLaws.{capital-at, capital-permitted}
 use Rattle.chars.specs.ColumnLaws.{column-says, unless-fine, digits-permitted, names-permitted}
 use Rattle.chars.specs.Columns.{allowedTest}
 use Rattle.chars.specs.declared.columns.Allowed.the-variants.{Permitted, Digits, OfNames}
-use Rattle.edits.specs.Edit.{firstBroken}
-use Rattle.edits.specs.EditLaws.{AllFine, fine-all}
+use Rattle.edits.specs.Edit.{firstBroken, AllFine}
+use Rattle.edits.specs.EditLaws.{fine-all}
 use Rattle.shape.specs.Hidden.{MeetsOwn}
 use Rattle.pfml.specs.Employees.{isPersonal, personalEdits}
 use Rattle.pfml.specs.Format.{pfmlShape}

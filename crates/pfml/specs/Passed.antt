@@ -16,15 +16,17 @@ use Rattle.chars.specs.ColumnLaws.{unless-fine}
 use Rattle.number.specs.Numbers.{valueIn}
 use Rattle.number.specs.NumberLaws.{value-below}
 use Rattle.rules.specs.RuleLaws.{period-fine}
-use Rattle.field.specs.Classes.{class-again}
+use Rattle.field.specs.ClassLaws.{class-again}
 use Rattle.field.specs.declared.class.Class.{Class}
 use Rattle.field.specs.declared.class.Class.the-variants.{Period, TaxYear, EmployerFein, IdentityNumber}
 use Rattle.edits.specs.FieldRow.{row, noRow}
 use Rattle.pfml_fields.specs.Fields.{fieldsOfA, fieldsOfE, fieldsOfS}
 use Rattle.pfml_fields.specs.Rows.{year-of-A, period-of-A, fein-of-E, identity-of-S, fields-of-A, fields-of-E, fields-of-S}
 use Rattle.pfml_fields.specs.FieldRules.{rulesOfA, rulesOfE, rulesOfS}
-use Rattle.edits.specs.EditLaws.{AllFine, all-fine, all-append, not-broken}
-use Rattle.edits.specs.RuleNumbers.{Around, ruleNumber, rule-again}
+use Rattle.edits.specs.EditLaws.{all-fine, all-append, not-broken}
+use Rattle.edits.specs.Edit.{AllFine}
+use Rattle.edits.specs.RuleNumbers.{Around, ruleNumber}
+use Rattle.edits.specs.FieldLaws.{rule-again}
 use Rattle.edits.specs.Formats.{quarterHeld}
 use Rattle.edits.specs.FieldEditLaws.{field-fine}
 use Rattle.edits.specs.FieldEdits.{fieldEdits}

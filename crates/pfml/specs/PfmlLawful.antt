@@ -9,7 +9,7 @@ use lib.Dec.{leb, ltb, eqb}
 use lib.ListN.{take, getD}
 use lib.Seq.{getD-take}
 use borrow.Author.Tests.{lt-leb, le-ltb}
-use Rattle.laws.specs.Choice.{within}
+use Rattle.laws.specs.ChoiceLaws.{within}
 use Rattle.number.specs.NumberLaws.{value-in-front}
 use Rattle.edits.specs.declared.Open.{Open}
 use Rattle.edits.specs.declared.Totals.{Totals}

@@ -14,13 +14,14 @@ use Rattle.chars.specs.Columns.{everyColumn}
 use Rattle.chars.specs.declared.columns.Allowed.the-variants.{Permitted, Blanks}
 use Rattle.number.specs.Numbers.{valueIn}
 use Rattle.text.specs.Text.{entityTest}
-use Rattle.field.specs.Classes.{class-again}
+use Rattle.field.specs.ClassLaws.{class-again}
 use Rattle.field.specs.declared.class.Class.the-variants.{RecordLetter, BlankSpace, Numeric, EntityCode}
 use Rattle.pfml_fields.specs.Fields.{fieldsOfT, fieldsOfF}
 use Rattle.pfml_fields.specs.Rows.{rows-of-T, rows-of-F}
-use Rattle.edits.specs.Edit.{Edit, atFirst, rule, eachColumn, firstBroken}
-use Rattle.edits.specs.EditLaws.{AllFine, all-fine, all-append, first-cons, first-one, first-append}
-use Rattle.edits.specs.RuleNumbers.{Around, rule-again}
+use Rattle.edits.specs.Edit.{Edit, atFirst, rule, eachColumn, firstBroken, AllFine}
+use Rattle.edits.specs.EditLaws.{all-fine, all-append, first-cons, first-one, first-append}
+use Rattle.edits.specs.RuleNumbers.{Around}
+use Rattle.edits.specs.FieldLaws.{rule-again}
 use Rattle.edits.specs.FieldEdits.{fieldEdits}
 use Rattle.edits.specs.FieldEditLaws.{none-listed, fields-cons}
 use Rattle.edits.specs.Own.{digitsEdit}

@@ -4,7 +4,8 @@ use mathlib.Core.List.{List}
 use mathlib.Core.Path.{refl}
 use Rattle.chars.specs.ColumnLaws.{unless-labelled, permitted-labelled}
 use Rattle.edits.specs.FieldsLabelled.{fields-labelled}
-use Rattle.edits.specs.Labels.{AllLabelled, none-labelled, more-labelled, labelled-append}
+use Rattle.edits.specs.Labels.{AllLabelled}
+use Rattle.edits.specs.LabelLaws.{none-labelled, more-labelled, labelled-append}
 use Rattle.edits.specs.FieldEdits.{fieldEdits}
 use Rattle.edits.specs.declared.Context.{Context}
 use Rattle.edits.specs.declared.Seen.{Seen}

@@ -18,8 +18,7 @@ use Rattle.pfml_fields.specs.Fields.{fields}
 use Rattle.pfml_fields.specs.Fit.{widthTest, class-widths}
 use Rattle.pfml_fields.specs.Rows.{all-fields, part-of-A, part-of-E, part-of-S, part-of-T, part-of-F}
 use Rattle.edits.specs.FieldRow.{noRow}
-use Rattle.edits.specs.FieldEditLaws.{AllWide}
-use Rattle.edits.specs.FieldParts.{Wide, Readable}
+use Rattle.edits.specs.Tests.{Wide, Readable, AllWide}
 use Rattle.pfml.specs.Edits.{rowsFor}
 use Rattle.pfml.specs.declared.kind.Kind.{Kind}
 use Rattle.pfml.specs.declared.kind.Kind.the-variants.{Transmitter, Employer, Employee, Total, Final, Unknown}

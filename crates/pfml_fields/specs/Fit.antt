@@ -6,9 +6,11 @@ use mathlib.Core.Path.{_≡_, sym, ap, _∙_}
 use lib.Dec.{T, eqb, leb, ltb}
 use lib.ListN.{getD}
 use borrow.Author.Tests.{leb-true, ltb-true, eqb-true}
-use Rattle.laws.specs.Choice.{if_then_else_, both-hold, within}
+use Rattle.laws.specs.Choice.{if_then_else_}
+use Rattle.laws.specs.ChoiceLaws.{both-hold, within}
 use Rattle.laws.specs.Table.{every, at}
-use Rattle.field.specs.Classes.{classNumber, classOf, class-again}
+use Rattle.field.specs.Classes.{classNumber, classOf}
+use Rattle.field.specs.ClassLaws.{class-again}
 use Rattle.field.specs.declared.class.Class.{Class}
 use Rattle.field.specs.declared.class.Class.the-variants.{Ignored, RecordLetter, BlankSpace, Numeric, AccountNumber, Flag, ThirdQuarterFlag, Period, RequiredText, OptionalText, PersonName, EntityCode, StateCode, ZipCode, ZipExtension, TaxYear, EmployerFein, IdentityNumber, CeaseDate}
 use Rattle.edits.specs.FieldRow.{classIn, firstIn, lastIn, widthIn}

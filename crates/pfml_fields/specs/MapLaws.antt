@@ -8,7 +8,7 @@ use native.Mathlib.Omega.{arith}
 use lib.Dec.{T}
 use lib.ListN.{length, getD, List·getD-eq-default}
 use borrow.Author.Tests.{leb-true, ltb-true, le-leb, lt-leb}
-use Rattle.laws.specs.Choice.{both-hold, within}
+use Rattle.laws.specs.ChoiceLaws.{both-hold, within}
 use Rattle.laws.specs.Table.{every, at}
 use Rattle.edits.specs.FieldRow.{firstIn, lastIn}
 use Rattle.pfml_fields.specs.Fields.{fieldsOfA, fieldsOfE, fieldsOfS, fieldsOfT, fieldsOfF, records, rowsOf, fields, starts, firstField}

@@ -10,7 +10,7 @@ use lib.Dec.{T, eqb, leb}
 use lib.ListN.{length, getD, take, drop, List·getD-append}
 use lib.Seq.{getD-append-add}
 use borrow.Author.Tests.{eqb-true, leb-true}
-use Rattle.laws.specs.Choice.{both-hold}
+use Rattle.laws.specs.ChoiceLaws.{both-hold}
 use Rattle.laws.specs.Lists.{any-default}
 use Rattle.laws.specs.Table.{every, at}
 use Rattle.field.specs.declared.class.Class.the-variants.{RecordLetter, BlankSpace, Numeric, AccountNumber, PersonName, EntityCode, TaxYear, EmployerFein, IdentityNumber, Period}

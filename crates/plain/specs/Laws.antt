@@ -7,7 +7,8 @@ use native.Mathlib.Omega.{arith}
 use borrow.Author.Tests.{eqb-false, eq-eqb, leb-true, not-true}
 use lib.Dec.{eqb, leb, ltb}
 use lib.ListN.{length, drop}
-use Rattle.laws.specs.Choice.{if_then_else_, both-hold}
+use Rattle.laws.specs.Choice.{if_then_else_}
+use Rattle.laws.specs.ChoiceLaws.{both-hold}
 use Rattle.laws.specs.Finding.{Finding, fine, broken, value}
 use Rattle.lines.specs.MadeLines.{text-before-end, cut-before-end}
 use Rattle.lines.specs.Laws.{end-short}
@@ -23,7 +24,7 @@ use Rattle.rules.specs.RuleLaws.{period-passes}
 use Rattle.rules.specs.Rules.{mayBeFiled}
 use Rattle.text.specs.TextLaws.{ink-not-blank, ink-not-indented}
 use Rattle.pfml_fields.specs.Fields.{fieldsOfS}
-use Rattle.edits.specs.EditLaws.{AllFine}
+use Rattle.edits.specs.Edit.{AllFine}
 use Rattle.edits.specs.FieldEdits.{fieldEdits}
 use Rattle.edits.specs.declared.Context.{Context}
 use Rattle.edits.specs.declared.Phase.the-variants.{EOpen}

@@ -10,7 +10,7 @@ use native.Mathlib.Omega.{arith}
 use borrow.Author.Tests.{leb-true, ltb-true, ltb-false}
 use lib.Dec.{leb, ltb, lit<}
 use lib.ListN.{getD}
-use Rattle.laws.specs.Choice.{both-hold}
+use Rattle.laws.specs.ChoiceLaws.{both-hold}
 use Rattle.laws.specs.Finding.{value}
 use Rattle.laws.specs.LoopSteps.{left-suc, left-none}
 use Rattle.chars.specs.Characters.{isDigit}

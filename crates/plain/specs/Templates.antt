@@ -9,7 +9,7 @@ use borrow.Author.Tests.{eqb-true, leb-true}
 use lib.Dec.{T, eqb, leb}
 use lib.ListN.{length, getD, take, drop, length-take, length-drop}
 use lib.Seq.{getD-take, getD-drop}
-use Rattle.laws.specs.Choice.{both-hold}
+use Rattle.laws.specs.ChoiceLaws.{both-hold}
 use Rattle.laws.specs.Finding.{value}
 use Rattle.laws.specs.Table.{every, at}
 use Rattle.laws.specs.Spelling.{bytes}

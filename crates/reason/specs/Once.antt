@@ -1,7 +1,7 @@
--- Each number of the paper's table has one reason and each reason one number, so that a promise in numbers leaves room for one answer.
-use Prim.Native.Nat.{ℕ, zero, suc, _<_}
+-- Laws: each number of the paper's table has one reason and each reason one number, so that a promise in numbers leaves room for one answer.
+use Prim.Native.Nat.{ℕ, _<_}
 use mathlib.Core.Bool.{Bool, true}
-use mathlib.Core.List.{List, [], _∷_, _++_}
+use mathlib.Core.List.{List, [], _∷_}
 use mathlib.Core.Path.{_≡_, refl, sym, ap, _∙_}
 use native.Mathlib.Omega.{arith}
 use lib.Dec.{T}
@@ -9,20 +9,12 @@ use lib.ListN.{length, getD}
 use borrow.Author.Tests.{eqb-true, eq-eqb, ne-eqb}
 use Rattle.laws.specs.Finding.{fine, broken}
 use Rattle.laws.specs.Table.{every, at}
-use Rattle.reason.specs.ReasonNumbers.{numberOf, reasons, havingNumber, reasonOf, isListed, findingOf, Notice, noticeOf}
+use Rattle.reason.specs.ReasonNumbers.{numberOf, reasons, havingNumber, reasonOf, isListed, findingOf, Notice, noticeOf, listed}
 use Rattle.reason.specs.declared.Edit.{Edit}
 use Rattle.reason.specs.declared.Edit.the-variants.{Passed, Broken}
 use Rattle.reason.specs.declared.Reason.{Reason}
 use Rattle.reason.specs.declared.Refusal.{Refusal}
 use Rattle.reason.specs.declared.Reason.the-variants.{LineLength, NoLineEnd, BadCharacter, UnknownLetter, EndsBeforeA, EndsAfterA, EndsWithEOpen, EndsWithoutF, BeforeA, SecondA, SWithoutE, TWithoutE, FWithoutE, EWhileEOpen, SUnderZeroE, FWhileEOpen, SecondT, SecondF, BehindF, NotDigit, NotBlank, TextMissing, TextIndented, NotEntityCode, UnknownState, BadZip, BadZipExtension, YearTooEarly, YearTooLate, BadPeriod, PeriodTooLate, YearNotOfA, PeriodNotOfA, FeinPrefix, FeinRepeated, FeinNotOfE, BadFlag, NoDate, DateOutsideQuarter, DateNotFinal, DateMissing, IdentityPrefix, IdentityRepeated, BadNameCharacter, CountNotOfS, NoneUnderE, WagesNotOfS, FileCountNotOfS, FileCountNotOfE, FileWagesNotOfS, TooManyS, IdTableFull, EmployerListFull, FeinZero, NotFinal, BadQuarter, WalkEnded, StateUnfit, UnknownFormat, NotToBeWritten, NoneToTotal, SumTooLarge, SliceLength, BuildLength, ValueTooLong}
-
--- "1 to 8, 10 to 20, 30 to 65, 70 to 72, 80 to 85": count numbers from first on.
-abbrev from : ℕ → ℕ → List ℕ
-from first zero = []
-from first (suc count) = first ∷ from (suc first) count
-
-unfoldable pub listed : List ℕ
-listed = from 1 8 ++ from 10 11 ++ from 30 36 ++ from 70 4 ++ from 80 6
 
 -- The reason is found again from its number.
 pub found-again : (reason : Reason) → reasonOf (numberOf reason) ≡ reason
@@ -101,7 +93,7 @@ same-number a b e = sym (found-again a) ∙ ap reasonOf e ∙ found-again b
 pub has-number : {reason : Reason} {n : ℕ} → n ≡ numberOf reason → reason ≡ reasonOf n
 has-number {reason} e = sym (ap reasonOf e ∙ found-again reason)
 
--- That n is no number of the reasons in a list, one fact after the other, behind what is known before.
+-- That n is no number of the reasons in a list, one fact after the other, following what is known before.
 abbrev NoneHas : ℕ → Type 0 → List Reason → Type 0
 NoneHas n known [] = known
 NoneHas n known (reason ∷ rest) = NoneHas n (known × (n ≡ numberOf reason → ⊥)) rest

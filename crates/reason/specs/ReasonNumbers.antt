@@ -1,7 +1,7 @@
--- The paper's number of each reason, and what an edit finds in the paper's numbers.
-use Prim.Native.Nat.{ℕ}
+-- Definitions: the paper's number of each reason, the numbers of its table, and what an edit finds in the paper's numbers.
+use Prim.Native.Nat.{ℕ, zero, suc}
 use mathlib.Core.Bool.{Bool}
-use mathlib.Core.List.{List, [], _∷_}
+use mathlib.Core.List.{List, [], _∷_, _++_}
 use lib.Dec.{eqb}
 use Rattle.laws.specs.Choice.{if_then_else_}
 use Rattle.laws.specs.Finding.{Finding, fine, broken}
@@ -118,3 +118,11 @@ notice number line column = record { number = number; line = line; column = colu
 -- "A refusal is a place together with the reason"
 abbrev pub noticeOf : Refusal → Notice
 noticeOf refusal = notice (numberOf (refusal .reason)) (refusal .line) (refusal .column)
+
+-- "1 to 8, 10 to 20, 30 to 65, 70 to 72, 80 to 85": count numbers from first on.
+abbrev from : ℕ → ℕ → List ℕ
+from first zero = []
+from first (suc count) = first ∷ from (suc first) count
+
+unfoldable pub listed : List ℕ
+listed = from 1 8 ++ from 10 11 ++ from 30 36 ++ from 70 4 ++ from 80 6

@@ -1,4 +1,4 @@
--- The verdict on a line, by the format that the context holds.
+-- Definitions: the verdict on a line, by the format that the context holds.
 use Prim.Native.Nat.{ℕ}
 use mathlib.Core.Bool.{Bool}
 use mathlib.Core.List.{List}

@@ -1,4 +1,4 @@
--- The laws of the verdict on a line, for every format: those of a lawful shape, for the format that the context holds.
+-- Laws: every format is lawful; and the verdict on a line, for every format: the laws of a lawful shape, for the format that the context holds.
 use Prim.Native.Nat.{ℕ, _≤_}
 use mathlib.Core.Bool.{Bool, true, false}
 use mathlib.Core.List.{List}
@@ -7,18 +7,17 @@ use lib.Dec.{eqb, leb}
 use lib.ListN.{length, take}
 use Rattle.laws.specs.Finding.{broken}
 use Rattle.lines.specs.Lines.{Line, firstLine, sizeOf}
-use Rattle.lines.specs.Window.{Lent}
+use Rattle.lines.specs.Lent.{Lent}
 use Rattle.chars.specs.Characters.{capitals}
 use Rattle.edits.specs.Edit.{firstBroken}
-use Rattle.edits.specs.EditLaws.{FirstIn}
-use Rattle.edits.specs.Labels.{AllLabelled}
+use Rattle.edits.specs.Labels.{AllLabelled, FirstIn}
 use Rattle.edits.specs.declared.Context.{Context}
 use Rattle.edits.specs.declared.Opening.{Opening}
 use Rattle.edits.specs.declared.Phase.{Phase}
 use Rattle.edits.specs.declared.Phase.the-variants.{EOpen}
 use Rattle.edits.specs.declared.Seen.{Seen}
 use Rattle.edits.specs.declared.format.Format.{Format}
-use Rattle.edits.specs.declared.format.Format.the-variants.{Pfml}
+use Rattle.edits.specs.declared.format.Format.the-variants.{Pfml, Unknown}
 use Rattle.shape.specs.After.{phaseAfter, filedAfter, openAfter, usedAfter, totalsAfter}
 use Rattle.shape.specs.Among.{judge-says-by, judged-size-by, passed-fits-by, passed-bounded-by, quarter-kept-by, more-kept-by, passed-positive-by, passed-length-by, refusal-left-by, end-left-by, asked-of-bytes-by, judge-lent-by}
 use Rattle.shape.specs.EndOfInput.{endEdits}
@@ -30,9 +29,17 @@ use Rattle.shape.specs.Shape.{Shape, refusal, passed, verdictBy, lineEditsBy, j
 use Rattle.shape.specs.Theorems.{line-labelled-by}
 use Rattle.shape.specs.Twins.{withoutSums}
 use Rattle.shape.specs.declared.Said.{Said}
+use Rattle.shape.specs.Lawful.{Lawful}
+use Rattle.shape.specs.NoFormatLawful.{no-lawful}
 use Rattle.pfml.specs.Format.{pfmlShape}
-use Rattle.record.specs.ShapeOf.{shapeOf, lawfulOf}
+use Rattle.pfml.specs.PfmlLawful.{pfml-lawful}
+use Rattle.record.specs.ShapeOf.{shapeOf}
 use Rattle.record.specs.Judge.{recordOn, judge, seenOn, editsAmong, judgeAmong}
+
+-- Every format is lawful.
+pub lawfulOf : (format : Format) → Lawful (shapeOf format)
+lawfulOf Pfml = pfml-lawful
+lawfulOf Unknown = no-lawful
 
 -- What the record on any line says is small.
 pub said-bounded : (format : Format) (line : Line) → Bounded (shapeOf format) (recordOn format line)

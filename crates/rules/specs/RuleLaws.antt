@@ -1,4 +1,4 @@
--- The rules of numbers, edit by edit: the class test, then the rule of the value.
+-- Laws: the rules of numbers, edit by edit: the class test, then the rule of the value.
 use Prim.Native.Nat.{ℕ, _-_, _<_, _≤_}
 use mathlib.Core.Path.{_≡_, refl, sym, ap, _∙_}
 use mathlib.Core.Bool.{Bool, true, false, not}
@@ -31,7 +31,7 @@ only-parts : (passes : ℕ → Bool) (first number : ℕ) (r : Reading)
 only-parts passes first number (value v) = rule-finds (passes v) v first number
 only-parts passes first number (refused column other) = refl
 
--- A second rule of the value, behind the first.
+-- A second rule of the value, after the first.
 second-finds : (t : Bool) (next : ℕ → Bool) (v first number other : ℕ)
     → findingIn (onlyIf next first other (if t then value v else refused first number)) ≡ orElse (unless t first number) (unless (next v) first other)
 second-finds true next v first number other = rule-finds (next v) v first other

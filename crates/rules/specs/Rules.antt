@@ -1,4 +1,4 @@
--- The rules of fields that read as numbers.
+-- Definitions: the rules of fields that read as numbers.
 use Prim.Native.Nat.{ℕ, _/_, _%_}
 use mathlib.Core.Bool.{Bool, not, _&&_, _||_}
 use mathlib.Core.List.{List}
@@ -50,7 +50,7 @@ isFromTo first last n = leb first n && leb n last
 unfoldable pub areIssued : ℕ → Bool
 areIssued digits = isFromTo 50 65 digits || isFromTo 70 88 digits || isFromTo 90 92 digits || isFromTo 94 99 digits
 
--- Of nine digits: four more stand behind them.
+-- Of nine digits: four more stand after them.
 abbrev pub fourthAndFifth : ℕ → ℕ
 fourthAndFifth id = id / 10000 % 100
 

@@ -1,4 +1,5 @@
--- What one record makes of each thing that the lines behind it are judged by. The meaning of a file takes these steps record by record, and so does the walk.
+-- Definitions: what one record makes of each thing that the lines after it are judged by.
+-- The meaning of a file takes these steps record by record, and so does the walk.
 use Prim.Native.Nat.{ℕ, _+_}
 use mathlib.Core.Bool.{false}
 use mathlib.Core.List.{List, [], _∷_, _++_}

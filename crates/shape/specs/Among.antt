@@ -1,5 +1,5 @@
--- The verdict on a line among others, in every format: what it is made of, what holds where it passes or is refused, and that neither the bytes behind
--- the line nor the part of them that is lent change it.
+-- Laws: the verdict on a line among others, in every format: what it is made of, what holds where it passes or is refused,
+-- and that neither the bytes after the line nor the part of them that is lent change it.
 use Prim.Native.Nat.{ℕ, _≤_}
 use mathlib.Core.Bool.{Bool, true, false}
 use mathlib.Core.List.{List}
@@ -13,11 +13,12 @@ use Rattle.laws.specs.Finding.{Finding, fine, broken, orElse, Reading, value, r
 use Rattle.lines.specs.Cutting.{cutting}
 use Rattle.lines.specs.Lines.{Line, firstLine, sizeOf}
 use Rattle.lines.specs.CutOutcomes.{taken-is-size, refused-number}
-use Rattle.lines.specs.Window.{Lent, lent-alike, lent-line}
+use Rattle.lines.specs.Window.{lent-alike, lent-line}
+use Rattle.lines.specs.Lent.{Lent}
 use Rattle.chars.specs.Characters.{capitals}
 use Rattle.chars.specs.CharacterLaws.{capitals-take}
-use Rattle.edits.specs.Edit.{firstBroken}
-use Rattle.edits.specs.EditLaws.{AllFine, not-broken}
+use Rattle.edits.specs.Edit.{firstBroken, AllFine}
+use Rattle.edits.specs.EditLaws.{not-broken}
 use Rattle.edits.specs.declared.Context.{Context}
 use Rattle.edits.specs.declared.Phase.{Phase}
 use Rattle.edits.specs.declared.Phase.the-variants.{BeforeA, AfterA, EOpen, AfterT, AfterF}
@@ -61,7 +62,7 @@ module _ (s : Shape) (l : Lawful s) (here : Context) (seen : Seen) (line : Line)
     pub passed-bounded-by : Bounded s said
     passed-bounded-by = subst (Bounded s) says (l .bounded (capitals (line .text)))
 
-    -- and no clause of 72 comes to hold behind it.
+    -- and no clause of 72 comes to hold after it.
     pub quarter-kept-by : s .quarterUnfit (here .phase) (here .held) (here .filed) ≡ false
         → s .quarterUnfit (phaseAfter said (here .phase)) (here .held) (filedAfter said (here .filed)) ≡ false
     quarter-kept-by fit =

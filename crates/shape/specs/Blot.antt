@@ -1,4 +1,5 @@
--- A line with its hidden columns blotted out is a line of the same record and shows all other columns, in every format; two lines with equal blots are alike.
+-- Laws: a line with its hidden columns blotted out is a line of the same record and shows all other columns, in every format;
+-- two lines with equal blots are alike.
 use Prim.Native.Nat.{ℕ, zero, suc, _+_, _≤_, _<_, min}
 use mathlib.Core.Bool.{Bool, true, false, _&&_}
 use mathlib.Core.List.{List, [], _∷_}
@@ -9,10 +10,11 @@ use lib.Dec.{eqb}
 use lib.ListN.{length, getD, take, length-take}
 use lib.Seq.{ext-getD, getD-take}
 use borrow.Author.Tests.{eqb-true}
-use Rattle.laws.specs.Choice.{if_then_else_, both-hold}
-use Rattle.lines.specs.Changed.{hasNoEnd, blank-no-end, Keeps}
+use Rattle.laws.specs.Choice.{if_then_else_}
+use Rattle.laws.specs.ChoiceLaws.{both-hold}
+use Rattle.lines.specs.Changed.{blank-no-end}
 use Rattle.lines.specs.MadeLines.{no-end-at}
-use Rattle.lines.specs.HiddenPlaces.{Hides}
+use Rattle.lines.specs.HiddenPlaces.{Hides, hasNoEnd, Keeps}
 use Rattle.lines.specs.Lines.{Line, isEnd}
 use Rattle.chars.specs.Characters.{isPermitted, capitals}
 use Rattle.chars.specs.CharacterLaws.{capitals-take, permitted-span}

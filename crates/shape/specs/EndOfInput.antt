@@ -1,4 +1,4 @@
--- The end of the input, which is the same in every format.
+-- Definitions: the end of the input, which is the same in every format.
 use mathlib.Core.Bool.{not}
 use mathlib.Core.List.{List, [], _∷_}
 use Rattle.edits.specs.Edit.{Edit, rule}

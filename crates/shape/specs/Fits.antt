@@ -1,4 +1,4 @@
--- What holds where a record passes: of the context, and of the size of what the record says.
+-- Definitions: what holds where a record passes: of the context, and of the size of what the record says.
 use Prim.Native.Nat.{ℕ, _+_, _<_, _≤_, _^_}
 use mathlib.Core.Bool.{true, false}
 use mathlib.Core.Logic.{_⊎_}

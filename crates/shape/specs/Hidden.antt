@@ -1,4 +1,4 @@
--- Demand 3: the records of employees, and the columns that are hidden on them, whatever else a line breaks and wherever it stands.
+-- Definitions: the records of employees, and the columns that are hidden on them, whatever else a line breaks and wherever it stands (demand 3).
 use Prim.Native.Nat.{ℕ, _+_}
 use mathlib.Core.Bool.{Bool, true, false, _&&_}
 use mathlib.Core.List.{List, [], _∷_}

@@ -1,4 +1,4 @@
--- All that a format owes the machine: what the machine's theorems rest on.
+-- Definitions: all that a format owes the machine: what the machine's theorems rest on.
 use Prim.Native.Nat.{ℕ, _≤_, _<_}
 use mathlib.Core.Bool.{Bool, true, false}
 use mathlib.Core.List.{List}
@@ -6,8 +6,7 @@ use mathlib.Core.Path.{_≡_}
 use lib.Dec.{leb}
 use lib.ListN.{take}
 use Rattle.laws.specs.Finding.{broken}
-use Rattle.edits.specs.Edit.{firstBroken}
-use Rattle.edits.specs.EditLaws.{AllFine}
+use Rattle.edits.specs.Edit.{firstBroken, AllFine}
 use Rattle.edits.specs.Labels.{AllLabelled}
 use Rattle.edits.specs.declared.Context.{Context}
 use Rattle.edits.specs.declared.Open.{Open}
@@ -43,7 +42,7 @@ pub record Lawful (s : Shape) : Type 0 where
   pub lines-allowed : 231074 ≤ s .mostLines
   pub lines-small : s .mostLines < 4294967295
   pub cents-small : s .mostCents ≤ 99999999999999
-  -- a walk that is not unfit is not unfit behind a record that passes: its quarter, and the clauses of the format's own
+  -- a walk that is not unfit is not unfit after a record that passes: its quarter, and the clauses of the format's own
   pub quarter-kept : (here : Context) (seen : Seen) (text : List ℕ) → AllFine (s .edits here seen text)
       → s .quarterUnfit (here .phase) (here .held) (here .filed) ≡ false
       → s .quarterUnfit (phaseAfter (s .says text) (here .phase)) (here .held) (filedAfter (s .says text) (here .filed)) ≡ false

@@ -14,3 +14,4 @@ pub mod Blot
 pub mod Judged
 pub mod Once
 pub mod NoFormat
+pub mod NoFormatLawful

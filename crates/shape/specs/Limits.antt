@@ -1,4 +1,4 @@
--- Limits that hold in every format.
+-- Definitions: limits that hold in every format.
 use Prim.Native.Nat.{ℕ}
 
 -- "At most 100,000 S records a file."

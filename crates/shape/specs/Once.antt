@@ -1,4 +1,4 @@
--- The promise of a verdict leaves room for one answer.
+-- Laws: the promise of a verdict leaves room for one answer.
 use mathlib.Core.Path.{_≡_, sym}
 use Rattle.reason.specs.ReasonNumbers.{numberOf}
 use Rattle.reason.specs.Once.{same-number}

@@ -1,4 +1,4 @@
--- Where a line stands, as a truth value.
+-- Definitions: where a line stands, as a truth value.
 use Prim.Native.Nat.{ℕ}
 use mathlib.Core.Bool.{Bool}
 use lib.Dec.{eqb}

@@ -1,4 +1,4 @@
--- A format as the machine knows it, and the verdict on a line by it.
+-- Definitions: a format as the machine knows it, and the verdict on a line by it.
 use Prim.Native.Nat.{ℕ}
 use mathlib.Core.Bool.{Bool, true, false, _&&_}
 use mathlib.Core.List.{List, _∷_}

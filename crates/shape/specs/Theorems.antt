@@ -1,4 +1,4 @@
--- accepted-iff and first-of-line, of one line, in every format; and the verdict part by part.
+-- Laws: accepted-iff and first-of-line, of one line, in every format; and the verdict part by part.
 use Prim.Native.Nat.{ℕ, _≤_}
 use mathlib.Core.List.{List}
 use mathlib.Core.Path.{_≡_, refl, sym, ap, _∙_}
@@ -10,9 +10,10 @@ use Rattle.lines.specs.Laws.{size-within, text-in-front}
 use Rattle.lines.specs.Lines.{Line, firstLine, sizeOf}
 use Rattle.lines.specs.CutOutcomes.{cut-parts, taken-is-size, length-labelled, ending-labelled}
 use Rattle.chars.specs.Characters.{capitals}
-use Rattle.edits.specs.Edit.{firstBroken}
-use Rattle.edits.specs.EditLaws.{first-cons, or-assoc, AllFine, fine-all, all-fine, FirstIn, first-of-list}
-use Rattle.edits.specs.Labels.{AllLabelled, more-labelled}
+use Rattle.edits.specs.Edit.{firstBroken, AllFine}
+use Rattle.edits.specs.EditLaws.{first-cons, or-assoc, fine-all, all-fine, first-of-list}
+use Rattle.edits.specs.Labels.{AllLabelled, FirstIn}
+use Rattle.edits.specs.LabelLaws.{more-labelled}
 use Rattle.edits.specs.declared.Context.{Context}
 use Rattle.edits.specs.declared.Seen.{Seen}
 use Rattle.shape.specs.Lawful.{Lawful}

@@ -1,4 +1,4 @@
--- Two texts of employees that are alike but in hidden columns, in contexts that are alike but for the sums.
+-- Definitions: two texts of employees that are alike but in hidden columns, in contexts that are alike but for the sums.
 use Prim.Native.Nat.{ℕ, _+_}
 use mathlib.Core.Bool.{Bool, true, false}
 use mathlib.Core.List.{List}

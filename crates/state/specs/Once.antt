@@ -1,4 +1,4 @@
--- The paper's numbers lose nothing of a state: no second state fits a promise.
+-- Laws: the paper's numbers lose nothing of a state: no second state fits a promise.
 use Prim.Native.Nat.{ℕ}
 use mathlib.Core.Path.{_≡_, refl, sym, ap}
 use native.Mathlib.Omega.{arith}

@@ -1,4 +1,4 @@
--- 72, "state unfit", exactly by its list.
+-- Definitions: 72, "state unfit", exactly by its list.
 use Prim.Native.Nat.{ℕ, _*_}
 use mathlib.Core.Bool.{Bool, false, not, _&&_, _||_}
 use lib.Dec.{ltb, eqb}

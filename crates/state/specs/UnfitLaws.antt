@@ -1,4 +1,4 @@
--- What a state that is not unfit is bounded by, and the other way: bounds that make a state fit.
+-- Laws: what a state that is not unfit is bounded by, and the other way: bounds that make a state fit.
 use Prim.Native.Nat.{ℕ, _*_, _≤_, _<_}
 use mathlib.Core.Bool.{Bool, true, false, not, _&&_, _||_, false≢true}
 use mathlib.Core.Path.{_≡_, refl, sym, _∙_}
@@ -15,7 +15,8 @@ use Rattle.edits.specs.declared.Totals.{Totals}
 use Rattle.edits.specs.declared.format.Format.{Format}
 use Rattle.shape.specs.Limits.{mostEmployees, mostFein}
 use Rattle.shape.specs.Shape.{Shape}
-use Rattle.record.specs.ShapeOf.{shapeOf, lawfulOf}
+use Rattle.record.specs.ShapeOf.{shapeOf}
+use Rattle.record.specs.Laws.{lawfulOf}
 use Rattle.tables.specs.Room.{Room, entriesUsed}
 use Rattle.state.specs.Unfit.{fileUnfit, openUnfit, isOpen, isLeft, standingUnfit, unfit}
 use Rattle.state.specs.Walks.{Walk, refusedWalk}

@@ -1,4 +1,4 @@
--- The state of a walk in the paper's numbers.
+-- Definitions: the state of a walk in the paper's numbers.
 use Prim.Native.Nat.{ℕ}
 use Rattle.reason.specs.ReasonNumbers.{Notice, noticeOf}
 use Rattle.calendar.specs.declared.Quarter.{Quarter}

@@ -1,4 +1,5 @@
 pub mod Words
+pub mod UnknownWords
 pub mod WordsWritten
 pub mod Reading
 pub mod Theorems

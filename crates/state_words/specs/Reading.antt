@@ -1,4 +1,4 @@
--- The laws of words that are read: what they tell, and when they tell nothing.
+-- Laws: what words that are read tell, and when they tell nothing.
 use Prim.Native.Nat.{ℕ, _≤_, _<_}
 use mathlib.Core.Bool.{Bool, true, false}
 use mathlib.Core.List.{List}

@@ -1,13 +1,12 @@
--- A state put into words is read back as it was; words that tell no walk are unfit for every call.
-use Prim.Native.Nat.{ℕ, _≤_, _<_, min}
-use mathlib.Core.Bool.{Bool, true, false, not, not-eq-not}
+-- Laws: a state put into words is read back as it was; words that tell no walk are unfit for every call.
+use Prim.Native.Nat.{ℕ, _≤_, min}
+use mathlib.Core.Bool.{Bool, true, false, not-eq-not}
 use mathlib.Core.List.{List, _++_, append-assoc}
 use mathlib.Core.Option.{some}
 use mathlib.Core.Path.{_≡_, refl, ap, _∙_}
 use native.Mathlib.Omega.{arith}
 use lib.ListN.{length, drop}
 use borrow.Author.Tests.{not-false}
-use Rattle.reason.specs.ReasonNumbers.{isListed}
 use Rattle.reason.specs.Once.{number-listed}
 use Rattle.tables.specs.Room.{Room}
 use Rattle.edits.specs.Formats.{formatOf, formatNumber}
@@ -22,7 +21,8 @@ use Rattle.state.specs.declared.Stage.{Stage}
 use Rattle.state.specs.declared.Stage.the-variants.{Reading, Accepted, Refused}
 use Rattle.state.specs.declared.State.{State}
 use Rattle.state_words.specs.Reading.{nowhere-told, unnamed-told, few-told, none-told, all-told}
-use Rattle.state_words.specs.Words.{wordCount, standingWords, numberWords, putWords, mostLine, mostColumn, HeldStanding, Held, word, flagWord, flagIn, standingIn, unfitWalk, walkTold, walkIn}
+use Rattle.state_words.specs.Words.{wordCount, standingWords, numberWords, putWords, mostLine, mostColumn, HeldStanding, Held, flagWord, flagIn, standingIn, unfitWalk, walkTold, walkIn}
+use Rattle.state_words.specs.UnknownWords.{Unknown, few, nowhere, unnamed}
 use Rattle.state_words.specs.WordsWritten.{firstFour, four, enough}
 
 -- ---- there and back
@@ -72,12 +72,6 @@ pub state-back : (st r : State) (words : List ℕ) → walkIn words ≡ walkOf s
 state-back st r words told read = same-walk r st (read ∙ told)
 
 -- ---- words that tell no walk
--- They are too few; or the first is none of the seven; or it says refused, and the number is none of the paper's.
-pub data Unknown (words : List ℕ) : Type 0 where
-  few : length words < wordCount → Unknown words
-  nowhere : 6 < word words 0 → Unknown words
-  unnamed : word words 0 ≡ 6 → isListed (word words 1) ≡ false → Unknown words
-
 pub unfit-72 : (room : Room) → unfit room unfitWalk ≡ true
 unfit-72 room =
     not-eq-not .0 (λ fit. left-not-72 NoFormat 72 (not-false (isLeft NoFormat 72) (fit-standing room unfitWalk fit)) refl)

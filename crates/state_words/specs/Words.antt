@@ -1,4 +1,4 @@
--- The state of a walk as 27 words of 64 bits that a caller lends, and the walk that any words tell.
+-- Definitions: the state of a walk as 27 words of 64 bits that a caller lends, and the walk that any words tell.
 use Prim.Native.Nat.{ℕ, _≤_, min}
 use mathlib.Core.Bool.{Bool, not}
 use mathlib.Core.List.{List, [], _∷_, _++_}
@@ -35,7 +35,7 @@ abbrev pub flagWord : Bool → ℕ
 flagWord flag = if flag then 1 else 0
 
 -- Then lines read; the quarter held, and A's; the open E's FEIN, its flag that S follow, S count, cents; the file's S count, employers, cents; ids in
--- use. Behind them the format's number, and what PFML has none of: the open E's second sum, its other records, the nearest of them, whether a note is among
+-- use. After them the format's number, and what PFML has none of: the open E's second sum, its other records, the nearest of them, whether a note is among
 -- them, and its account number; and the file's second sum, other records and notes.
 abbrev pub numberWords : Walk → List ℕ
 numberWords walk =
@@ -53,7 +53,7 @@ numberWords walk =
 abbrev pub wordsOf : Walk → List ℕ
 wordsOf walk = standingWords (walk .standing) ++ numberWords walk
 
--- They stand at the front of what is lent, and what lies behind stays. Where there is no room for all of them, none is written.
+-- They stand at the front of what is lent, and what lies after them stays. Where there is no room for all of them, none is written.
 unfoldable pub putWords : Walk → List ℕ → List ℕ
 putWords walk words = if ltb (length words) wordCount then words else wordsOf walk ++ drop wordCount words
 

@@ -1,4 +1,4 @@
--- The laws of words that are written: how many they are, and how a loop writes one behind the other.
+-- Laws: how many words are written, and how a loop writes one after the other.
 use Prim.Native.Nat.{ℕ, suc, _+_, _≤_, _<_}
 use mathlib.Core.List.{List, [], _∷_, _++_}
 use mathlib.Core.Path.{_≡_, refl, sym, ap}

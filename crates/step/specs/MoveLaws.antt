@@ -1,4 +1,4 @@
--- What a call answers, by cases: the state is unfit, or the answer rests on where the walk stands.
+-- Laws: what a call answers, by cases: the state is unfit, or the answer rests on where the walk stands.
 use mathlib.Core.Bool.{Bool, true, false}
 use mathlib.Core.Path.{_≡_, ap}
 use Rattle.laws.specs.Choice.{if_then_else_}

@@ -1,4 +1,4 @@
--- What a call answers and what it writes, decided before any table is touched.
+-- Definitions: what a call answers and what it writes, decided before any table is touched.
 use Prim.Native.Nat.{ℕ, _+_, _-_}
 use mathlib.Core.Bool.{Bool}
 use lib.Dec.{leb, eqb}
@@ -71,7 +71,7 @@ stays number walk = record { says = notice number 0 0; taken = 0; walk = walk; c
 abbrev pub again : Notice → Walk → Moved
 again says walk = record { says = says; taken = 0; walk = walk; change = if isOfOpening (says .number) then Nothing else Clear }
 
--- "A refusal from 1 to 63, or a later number for an edit of a record, zeroes both, ends the walk". The line is the one behind those read.
+-- "A refusal from 1 to 63, or a later number for an edit of a record, zeroes both, ends the walk". The line is the one after those read.
 abbrev pub refuses : Walk → ℕ → ℕ → Moved
 refuses walk column number =
     record {
@@ -100,7 +100,7 @@ walkAfter said walk =
     after walk (phaseAfter said (phaseOf (walk .standing))) (filedAfter said (walk .filed)) (openAfter said (walk .open))
     (totalsAfter said (walk .all)) (usedAfter said (walk .used))
 
--- What it writes: an E its FEIN behind the entries so far; an S its identity number behind those in use; a T the count and cents of the last entry, and
+-- What it writes: an E its FEIN after the entries so far; an S its identity number after those in use; a T the count and cents of the last entry, and
 -- the ids in use become zeros.
 abbrev pub changeBy : Said → Walk → Change
 changeBy (OfA quarter) walk = Nothing

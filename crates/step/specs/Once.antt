@@ -1,4 +1,4 @@
--- The paper's numbers lose nothing of an answer and of what a call writes: no second one fits a promise.
+-- Laws: the paper's numbers lose nothing of an answer and of what a call writes: no second one fits a promise.
 use mathlib.Core.Path.{_≡_, sym, ap}
 use Rattle.reason.specs.ReasonNumbers.{Notice}
 use Rattle.reason.specs.Once.{never-zero, same-notice}

@@ -1,4 +1,4 @@
--- What is looked up for a line is what it asks.
+-- Laws: what is looked up for a line is what it asks.
 use Prim.Native.Nat.{ℕ, _<_}
 use mathlib.Core.Bool.{Bool, true, false, _&&_}
 use mathlib.Core.List.{List}
@@ -14,9 +14,9 @@ use Rattle.shape.specs.Fits.{Bounded}
 use Rattle.shape.specs.Shape.{Shape, idAsked}
 use Rattle.shape.specs.declared.Said.{Said}
 use Rattle.shape.specs.declared.Said.the-variants.{OfA, OfE, OfS, OfT, OfF, OfNone}
-use Rattle.record.specs.ShapeOf.{shapeOf, lawfulOf}
+use Rattle.record.specs.ShapeOf.{shapeOf}
 use Rattle.record.specs.Judge.{seenOn}
-use Rattle.record.specs.Laws.{asked-of-bytes}
+use Rattle.record.specs.Laws.{asked-of-bytes, lawfulOf}
 use Rattle.tables.specs.Laws.{among-none}
 use Rattle.tables.specs.Room.{Tables, roomOf}
 use Rattle.tables.specs.Tables.{isAmong, feinsOf}

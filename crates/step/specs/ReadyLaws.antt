@@ -1,4 +1,4 @@
--- A record that passes in a state that is not unfit is ready to be taken up: no sum wraps.
+-- Laws: a record that passes in a state that is not unfit is ready to be taken up: no sum wraps.
 use Prim.Native.Nat.{ℕ, _+_, _*_, _≤_, _<_, _^_, min}
 use mathlib.Core.Bool.{Bool, true, false}
 use mathlib.Core.Logic.{inl, inr}
@@ -17,9 +17,9 @@ use Rattle.shape.specs.Shape.{Shape, passed}
 use Rattle.shape.specs.declared.EmployeeOn.{EmployeeOn}
 use Rattle.shape.specs.declared.Said.{Said}
 use Rattle.shape.specs.declared.Said.the-variants.{OfA, OfE, OfS, OfT, OfF, OfNone}
-use Rattle.record.specs.ShapeOf.{shapeOf, lawfulOf}
+use Rattle.record.specs.ShapeOf.{shapeOf}
 use Rattle.record.specs.Judge.{recordOn, judge}
-use Rattle.record.specs.Laws.{judged-size, judged-fits, judged-bounded}
+use Rattle.record.specs.Laws.{judged-size, judged-fits, judged-bounded, lawfulOf}
 use Rattle.tables.specs.Room.{Room, mostEmployers}
 use Rattle.state.specs.Cents.{product-small, one-more}
 use Rattle.state.specs.Unfit.{unfit, isOpen}

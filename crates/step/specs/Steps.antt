@@ -1,4 +1,4 @@
--- Opening, one line and the end over a state and the two lent tables: what is decided, and then carried out.
+-- Definitions: opening, one line and the end over a state and the two lent tables: what is decided, and then carried out.
 use Prim.Native.Nat.{ℕ}
 use mathlib.Core.Bool.{Bool}
 use mathlib.Core.List.{List}

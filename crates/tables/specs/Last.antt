@@ -1,4 +1,4 @@
--- The laws of a list whose last entry is done: it keeps its number of entries and their FEINs, and is the list with the entry at the last place done.
+-- Laws: a list whose last entry is done keeps its number of entries and their FEINs, and is the list with the entry at the last place done.
 use Prim.Native.Nat.{ℕ, suc, _-_, _≤_}
 use mathlib.Core.List.{List, [], _∷_, _++_}
 use mathlib.Core.Path.{_≡_, refl, ap}
@@ -24,14 +24,14 @@ module _ (count cents : ℕ) where
   closed-feins (entry ∷ []) = refl
   closed-feins (entry ∷ next ∷ entries) = ap (λ (l : List ℕ). entry .fein ∷ l) (closed-feins (next ∷ entries))
 
-  -- By the last entry's place, whatever is behind it.
+  -- By the last entry's place, whatever comes after it.
   closed-last-at : (entry : Employer) (entries back : List Employer)
       → closedAt (length entries) count cents ((entry ∷ entries) ++ back) ≡ closedLast count cents (entry ∷ entries) ++ back
   unfolding closedAt
   closed-last-at entry [] back = refl
   closed-last-at entry (next ∷ entries) back = ap (λ (l : List Employer). entry ∷ l) (closed-last-at next entries back)
 
-  -- So it is in the list that is lent, where entries at rest are behind it.
+  -- So it is in the list that is lent, where entries at rest come after it.
   pub closed-padded : (n : ℕ) (entries : List Employer) → 1 ≤ length entries
       → closedAt (length entries - 1) count cents (pad noEmployer n entries) ≡ pad noEmployer n (closedLast count cents entries)
   unfolding pad

@@ -1,4 +1,4 @@
--- The laws of the two tables.
+-- Laws: a table that is wiped, whether a number is among others, the FEINs of a list, and an entry that is closed.
 use Prim.Native.Nat.{ℕ, zero, suc, _≤_, min}
 use mathlib.Core.Bool.{false, _||_, or-assoc}
 use mathlib.Core.List.{List, [], _∷_, _++_, map, append-nil, map-append}

@@ -1,4 +1,4 @@
--- The two tables that a caller lends, and how much room they have.
+-- Definitions: the two tables that a caller lends, and how much room they have.
 use Prim.Native.Nat.{ℕ, min}
 use mathlib.Core.List.{List}
 use lib.ListN.{length, replicate}

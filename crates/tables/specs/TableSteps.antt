@@ -1,4 +1,4 @@
--- What a step of the code leaves: the laws that the proofs of this crate cite.
+-- Laws: what a step of the code leaves, as the proofs of this crate cite it.
 use Prim.Native.Nat.{ℕ, zero, suc, _+_, _<_, min}
 use mathlib.Core.Bool.{_||_, or-false}
 use mathlib.Core.List.{List, [], _∷_}

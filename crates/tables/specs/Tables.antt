@@ -1,4 +1,4 @@
--- What the functions over the two tables make of them and tell of them.
+-- Definitions: what the functions over the two tables make of them and tell of them.
 use Prim.Native.Nat.{ℕ, min}
 use mathlib.Core.Bool.{Bool, false, _||_}
 use mathlib.Core.List.{List, [], _∷_, _++_, map}

@@ -1,4 +1,4 @@
--- State, ZIP and extension.
+-- Definitions: state, ZIP and extension.
 use Prim.Native.Nat.{ℕ, _+_, _-_}
 use mathlib.Core.Bool.{true}
 use mathlib.Core.List.{List}

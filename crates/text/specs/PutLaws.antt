@@ -1,4 +1,4 @@
--- The laws of text written into a line: how a loop writes it, what then stands in its columns, and that the others stay as they were.
+-- Laws: how a loop writes text into a line, what then stands in its columns, and that the others stay as they were.
 use Prim.Native.Nat.{ℕ, zero, suc, _+_, _-_, _<_, _≤_}
 use mathlib.Core.Path.{_≡_, refl, sym, ap, _∙_}
 use mathlib.Core.List.{List, [], _∷_, _++_, append-nil}
@@ -47,7 +47,7 @@ capital-more line i c h e =
 pub capital-done : (line : List ℕ) (i : ℕ) → length line ≡ i → capitalTo line i ≡ capitals line
 capital-done line i e = rw (← e, drop-length, append-nil) (rw (← capitals-length line) (take-length (capitals line)))
 
--- Behind the line's end nothing is written.
+-- After the line's end nothing is written.
 pub none-past : (text line : List ℕ) (at : ℕ) → length line ≤ at → sets line at text ≡ line
 none-past [] line at h = refl
 none-past (c ∷ text) line at h = rw (set-out line at c h) (none-past text line (suc at) (omega arith))
@@ -92,12 +92,12 @@ module _ (line : List ℕ) (first : ℕ) (text : List ℕ) where
   unfolding putText
   put-text-length = length-sets line (first - 1) text
 
-  -- and every column before and behind the text's.
+  -- and every column before and after the text's.
   pub put-text-elsewhere : (j : ℕ) → (j < first - 1) ⊎ (first - 1 + length text ≤ j) → getD (putText line first text) j 0 ≡ getD line j 0
   unfolding putText
   put-text-elsewhere j h = sets-elsewhere text line (first - 1) j h
 
-  -- Character k of the text stands so far behind the first column.
+  -- Character k of the text stands so far after the first column.
   pub put-text-at : first - 1 + length text ≤ length line → (k : ℕ) → k < length text → getD (putText line first text) (first - 1 + k) 0 ≡ getD text k 0
   unfolding putText
   put-text-at h k l = sets-at text line (first - 1) k h l

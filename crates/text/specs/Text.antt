@@ -1,4 +1,4 @@
--- Fields of text.
+-- Definitions: fields of text.
 use Prim.Native.Nat.{ℕ, _-_}
 use mathlib.Core.Bool.{Bool, true, _&&_}
 use mathlib.Core.List.{List, [], _∷_}
@@ -17,7 +17,7 @@ allBlank line first last = isFine (everyColumn Blanks line first last)
 unfoldable pub isIndented : List ℕ → ℕ → Bool
 isIndented line first = isBlank (getD line (first - 1) 0)
 
--- "first column blank otherwise 33", behind what an all blank field gives
+-- "first column blank otherwise 33", after what an all blank field gives
 unfoldable pub textTest : Finding → List ℕ → ℕ → ℕ → Finding
 textTest missing line first last =
     if allBlank line first last then missing else

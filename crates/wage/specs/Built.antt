@@ -1,4 +1,4 @@
--- number-told, text-told, account-told, no-account-told: what the exports that read a field say of a record that they built.
+-- Laws: number-told, text-told, account-told, no-account-told: what the exports that read a field say of a record that they built.
 use Prim.Native.Nat.{ℕ, _<_}
 use mathlib.Core.Bool.{true}
 use mathlib.Core.List.{List, map}

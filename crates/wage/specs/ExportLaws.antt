@@ -1,4 +1,4 @@
--- The laws of the calls: how the code comes to what each promises.
+-- Laws: how the code comes to what each call promises.
 use Prim.Native.Nat.{ℕ, _<_, _≤_}
 use mathlib.Core.Bool.{true, false, false≢true}
 use mathlib.Core.List.{List, [], _∷_}

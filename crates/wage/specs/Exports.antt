@@ -1,4 +1,4 @@
--- The calls of the library for integrators: what each answers, and what is then in everything that it was lent.
+-- Definitions: the calls of the library for integrators: what each answers, and what is then in everything that it was lent.
 use Prim.Native.Nat.{ℕ, _≤_}
 use mathlib.Core.Bool.{Bool, false, _||_}
 use mathlib.Core.List.{List, [], _∷_, _++_}
@@ -33,7 +33,7 @@ use Rattle.wage.specs.declared.Numbers.{Numbers}
 abbrev pub numbers : Notice → ℕ → Numbers
 numbers says bytes = record { number = says .number; line = says .line; column = says .column; bytes = bytes }
 
--- They stand at the front of what is lent, as many as fit, and what lies behind stays.
+-- They stand at the front of what is lent, as many as fit, and what lies after them stays.
 unfoldable pub answered : Numbers → List ℕ → List ℕ
 answered n words = take (length words) (n .number ∷ n .line ∷ n .column ∷ n .bytes ∷ []) ++ drop 4 words
 

@@ -1,4 +1,4 @@
--- Calls through words are the calls of the walk: what a call leaves, the words tell to the next. Words that tell no walk are answered 72, and
+-- Laws: calls through words are the calls of the walk: what a call leaves, the words tell to the next. Words that tell no walk are answered 72, and
 -- nothing is changed; those that tell a walk refused with 70 are answered 70 again, and nothing is touched.
 use Prim.Native.Nat.{ℕ, _≤_}
 use mathlib.Core.Bool.{Bool, true, false, _||_, false≢true}
@@ -29,8 +29,9 @@ use Rattle.tables.specs.declared.Employer.{Employer}
 use Rattle.state.specs.Unfit.{unfit}
 use Rattle.state.specs.UnfitLaws.{edit-not-opening, edit-not-71, edit-not-72}
 use Rattle.state.specs.Walks.{Standing, reading, accepted, refused, Walk}
-use Rattle.state_words.specs.Theorems.{Unknown, unknown-unfit}
+use Rattle.state_words.specs.Theorems.{unknown-unfit}
 use Rattle.state_words.specs.Words.{wordCount, wordsOf, putWords, walkIn}
+use Rattle.state_words.specs.UnknownWords.{Unknown}
 use Rattle.state_words.specs.WordsWritten.{words-length, enough}
 use Rattle.write.specs.Writing.{noTables, refusalOf, writing}
 use Rattle.write.specs.WritingLaws.{unfit-first}
@@ -42,16 +43,9 @@ use Rattle.step.specs.Steps.{Out, carried, listedFein, listedId, openStep, line
 use Rattle.walk.specs.Calls.{wholeFile}
 use Rattle.wage.specs.ExportLaws.{has-place}
 use Rattle.wage.specs.Exports.{numbers, answered, Called, called, Opened, isStill, stateAfter, Continued, placed, openThrough, lineThrough, endThrough, wholeThrough, Filled, filledRecord, filledT, filledF, filledFraming, filledFrames}
+use Rattle.wage.specs.CallsFollow.{Follows, LineCall, InRow, AllFollow}
 
 -- ---- one call
--- What the caller has after a call through words is what the walk's own call answers: the number, the tables, and the walk that the words then tell.
--- The words are as many as before.
-pub record Follows (out : Out) (words : List ℕ) (has : Called) : Type 0 where
-  pub number : has .number ≡ out .says .number
-  pub left : has .left ≡ out .left
-  pub walk : walkIn (has .state) ≡ out .walk
-  pub room : length (has .state) ≡ length words
-
 put-length : (walk : Walk) (words : List ℕ) → wordCount ≤ length words → length (putWords walk words) ≡ length words
 put-length walk words room =
     rw (enough walk words room, length-append (wordsOf walk) (drop wordCount words), words-length walk, length-drop wordCount words) (omega arith)
@@ -147,24 +141,6 @@ module _ (words answer : List ℕ) (t : Tables) (has : Called) (room : wordCount
       rw (sym tells) (continued-follows (endThrough words t) words answer has room promised (end-stands (roomOf t) (walkIn words) _ refl))
 
 -- ---- calls one after the other
--- A line call: the bytes and the answer's words that it was lent, and what the caller has after it.
-pub record LineCall : Type 0 where
-  pub bytes : List ℕ
-  pub answer : List ℕ
-  pub has : Called
-
--- Line calls in a row, each with the words and the tables that the last one left.
-abbrev pub InRow : List ℕ → Tables → List LineCall → Type 0
-InRow words t [] = Unit
-InRow words t (c ∷ calls) = Continued (lineThrough (c .bytes) words t) words (c .answer) (c .has) × InRow (c .has .state) (c .has .left) calls
-
--- Each follows the walk's own call, which is made with the state and the tables that the walk's last call left.
-abbrev pub AllFollow : Walk → Tables → List ℕ → List LineCall → Type 0
-AllFollow walk t words [] = Unit
-AllFollow walk t words (c ∷ calls) =
-    let out = lineStep walk (firstLine (c .bytes)) t in
-    Follows out words (c .has) × AllFollow (out .walk) (out .left) (c .has .state) calls
-
 pub calls-follow : (calls : List LineCall) (words : List ℕ) (t : Tables) (walk : Walk) → walkIn words ≡ walk → wordCount ≤ length words
     → InRow words t calls → AllFollow walk t words calls
 calls-follow [] words t walk tells room row = tt

@@ -19,8 +19,7 @@ use Rattle.step.proofs.open_move as open-move-fn
 use Rattle.step.proofs.end_move as end-move-fn
 use Rattle.employees.specs.Runs.{leftBy, behind as behindOf}
 use Rattle.employees.proofs.behind as behind-fn
-use Rattle.walk.specs.LineAndRun.{linesStep}
-use Rattle.walk.specs.WholeLaws.{nextPlace}
+use Rattle.walk.specs.LineAndRun.{linesStep, nextPlace}
 use Rattle.walk.specs.Writes.{writesOf}
 use Rattle.walk.specs.declared.Asked.{Asked}
 use Rattle.walk.proofs.Asked as K

@@ -1,4 +1,4 @@
--- The records of an accepted file were all taken, and the last of them is F.
+-- Laws: the records of an accepted file were all taken, and the last of them is F.
 use Prim.Native.Nat.{ℕ, _+_, _≤_}
 use mathlib.Core.Bool.{true}
 use mathlib.Core.List.{List, [], _∷_}
@@ -13,8 +13,8 @@ use Rattle.edits.specs.declared.Opening.{Opening}
 use Rattle.edits.specs.declared.Phase.{Phase}
 use Rattle.edits.specs.declared.Phase.the-variants.{BeforeA, AfterA, EOpen, AfterT, AfterF}
 use Rattle.edits.specs.declared.Totals.{Totals}
-use Rattle.record.specs.Laws.{passed-size, refusal-left}
-use Rattle.record.specs.ShapeOf.{shapeOf, lawfulOf}
+use Rattle.record.specs.Laws.{passed-size, refusal-left, lawfulOf}
+use Rattle.record.specs.ShapeOf.{shapeOf}
 use Rattle.shape.specs.Shape.{Judged, refusal, passed}
 use Rattle.shape.specs.EndOfInputLaws.{endTest, end-parts}
 use Rattle.shape.specs.declared.Said.{Said}
@@ -26,7 +26,7 @@ use Rattle.meaning.specs.Meaning.{contextAt, onEarlierE, underThisE, judgeAt, f
 use Rattle.meaning.specs.Theorems.{not-refused}
 use Rattle.state.specs.Unfit.{isLeft}
 use Rattle.state.specs.UnfitLaws.{left-number}
-use Rattle.walk.specs.At.{Good}
+use Rattle.walk.specs.GoodLaws.{Good}
 use Rattle.walk.specs.WalkMeans.{taken-good}
 
 module _ (room : Room) (held : Opening) (allowed : mayOpen held ≡ true) (entries : List Employer) (totals : Totals) where

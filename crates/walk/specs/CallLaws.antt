@@ -1,5 +1,5 @@
--- One call: lent a part of the bytes it answers as if lent all (pieces-are-whole); on a walk that nobody altered it is never unfit, and answers
--- what the records before say.
+-- Laws: one call: lent a part of the bytes it answers as if lent all (pieces-are-whole);
+-- on a walk that nobody altered it is never unfit, and answers what the records before say.
 use Prim.Native.Nat.{ℕ, _≤_}
 use mathlib.Core.Bool.{Bool, true, false, false≢true}
 use mathlib.Core.List.{List}
@@ -8,14 +8,14 @@ use native.Mathlib.Omega.{arith}
 use lib.ListN.{length, take}
 use Rattle.chars.specs.Characters.{capitals}
 use Rattle.lines.specs.Lines.{Line, firstLine}
-use Rattle.lines.specs.Window.{Lent}
+use Rattle.lines.specs.Lent.{Lent}
 use Rattle.edits.specs.Edit.{firstBroken}
 use Rattle.edits.specs.Formats.{mayOpen}
 use Rattle.edits.specs.declared.Opening.{Opening}
 use Rattle.edits.specs.declared.Phase.{Phase}
 use Rattle.edits.specs.declared.Phase.the-variants.{BeforeA, AfterA, EOpen, AfterT, AfterF}
-use Rattle.record.specs.ShapeOf.{shapeOf, lawfulOf}
-use Rattle.record.specs.Laws.{judge-lent}
+use Rattle.record.specs.ShapeOf.{shapeOf}
+use Rattle.record.specs.Laws.{judge-lent, lawfulOf}
 use Rattle.record.specs.Judge.{seenOn}
 use Rattle.shape.specs.EndOfInput.{endEdits}
 use Rattle.shape.specs.declared.Said.{Said}
@@ -29,7 +29,8 @@ use Rattle.state.specs.Walks.{Standing, reading, accepted, refused, Walk}
 use Rattle.step.specs.MoveLaws.{line-alike, line-fit, end-fit}
 use Rattle.step.specs.Moves.{Moved, byVerdict, byStanding, lineMoved, endVerdict, endMoved}
 use Rattle.step.specs.Steps.{carried, listedFein, listedId, lineStep, endStep}
-use Rattle.walk.specs.At.{walkAt, tablesAt, begun, done, Good}
+use Rattle.walk.specs.At.{walkAt, tablesAt}
+use Rattle.walk.specs.GoodLaws.{begun, done, Good}
 use Rattle.walk.specs.StepLaws.{room-at, feins-listed, ids-listed}
 
 -- ---- the law of one call behind every lending

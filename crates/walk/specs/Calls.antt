@@ -1,4 +1,4 @@
--- The calls of demands 2 and 3: opening, line calls while any byte remains and none is refused, then one end call.
+-- Definitions: the calls of demands 2 and 3: opening, line calls while any byte remains and none is refused, then one end call.
 use Prim.Native.Nat.{ℕ, zero, suc, _+_, _-_, _≤_}
 use mathlib.Core.List.{List, [], _∷_}
 use mathlib.Core.Logic.{_⊎_}
@@ -25,6 +25,10 @@ use Rattle.walk.specs.At.{acceptedAt}
 -- have as many bytes before them, so whatever a caller lends is one of these.
 abbrev pub Lending : Format → (ℕ → ℕ) → Type 0
 Lending format lend = (remain : ℕ) → (shapeOf format .length + 2 ≤ lend remain) ⊎ (remain ≤ lend remain)
+
+-- All that remains.
+abbrev pub all : ℕ → ℕ
+all remain = remain
 
 -- "calls that are each lent the file from where the last one ended": line calls while any byte remains and none is refused ("0 if refused"), then one
 -- end call, after a refusal too. `skip` bytes still belong to the line taken last.

@@ -1,4 +1,4 @@
--- A move that is carried out on the lent tables is the step of its call.
+-- Laws: a move that is carried out on the lent tables is the step of its call.
 use Prim.Native.Nat.{ℕ}
 use mathlib.Core.Bool.{Bool}
 use mathlib.Core.List.{List}

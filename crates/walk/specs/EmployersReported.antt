@@ -1,23 +1,21 @@
--- employers-are: where a walk ends accepted, the employers reported are those of the file's E records, with the counts and wage totals of the S
--- records under each.
+-- Laws: employers-are: where a walk ends accepted, the employers reported are those of the file's E records,
+-- with the counts and wage totals of the S records under each.
 use Prim.Native.Nat.{ℕ}
 use mathlib.Core.Bool.{Bool, true, false}
 use mathlib.Core.List.{List, []}
 use mathlib.Core.Path.{_≡_, refl, sym, ap, subst, _∙_}
 use native.Mathlib.Omega.{arith}
-use lib.ListN.{length, replicate}
+use lib.ListN.{length}
 use Rattle.reason.specs.ReasonNumbers.{Notice}
 use Rattle.lines.specs.Lines.{linesOf}
 use Rattle.edits.specs.Formats.{mayOpen}
 use Rattle.edits.specs.declared.Opening.{Opening}
-use Rattle.edits.specs.declared.format.Format.{Format}
 use Rattle.shape.specs.declared.Said.{Said}
 use Rattle.tables.specs.Pad.{pad}
 use Rattle.tables.specs.Room.{Tables, roomOf}
 use Rattle.tables.specs.Tables.{noEmployer}
 use Rattle.meaning.specs.Before.{entriesIn, totalsIn}
 use Rattle.meaning.specs.Employers.{employers-are as employers-meant}
-use Rattle.meaning.specs.Forward.{recordsOf, employersOf, totalsOf}
 use Rattle.meaning.specs.Meaning as meant
 use Rattle.meaning.specs.Meaning.{recordsOnto, Outcome, meaning}
 use Rattle.meaning.specs.Theorems.{accepted-iff}
@@ -26,15 +24,10 @@ use Rattle.step.specs.Moves.{openingNotice}
 use Rattle.step.specs.Steps.{Out}
 use Rattle.walk.specs.Calls.{Lending, walked, leaves, wholeFile}
 use Rattle.walk.specs.WalkMeans.{walk-means}
+use Rattle.walk.specs.AsInManual.{Reported}
 
 not-accepted : (says : Notice) → refused says ≡ accepted → ⊥
 not-accepted says e = let z : _≡_ {A = ℕ} 0 1 = cc in omega arith
-
--- What an accepted walk reports. "Acceptance leaves the employer list, in file order: FEIN, S count, cents; later entries zero."
-pub record Reported (format : Format) (file : List ℕ) (t : Tables) (o : Out) : Type 0 where
-  pub list : o .left .list ≡ pad noEmployer (length (t .list)) (employersOf (recordsOf format file))
-  pub ids : o .left .ids ≡ replicate (length (t .ids)) 0
-  pub all : o .walk .all ≡ totalsOf (recordsOf format file)
 
 module _ (held : Opening) (file : List ℕ) (t : Tables) where
   abbrev records : List Said

@@ -1,5 +1,5 @@
--- Records that were taken stay good with one record more: nothing exceeds its bound, so no sum wraps and no state becomes unfit.
-use Prim.Native.Nat.{ℕ, _+_, _≤_, _<_}
+-- Laws: records that were taken are good, and stay so with one record more: nothing exceeds its bound, so no sum wraps and no state becomes unfit.
+use Prim.Native.Nat.{ℕ, _+_, _≤_, _<_, _*_}
 use mathlib.Core.Bool.{Bool, true, false}
 use mathlib.Core.List.{List, [], _∷_, _++_}
 use mathlib.Core.Logic.{_⊎_, inl, inr}
@@ -11,20 +11,60 @@ use borrow.Author.Tests.{eq-eqb, leb-false}
 use Rattle.laws.specs.Choice.{if_then_else_}
 use Rattle.calendar.specs.declared.Quarter.{Quarter}
 use Rattle.edits.specs.declared.Opening.{Opening}
-use Rattle.edits.specs.declared.Phase.the-variants.{AfterA, EOpen, AfterT}
+use Rattle.edits.specs.declared.Phase.the-variants.{AfterA, EOpen, AfterT, BeforeA, AfterF}
+use Rattle.edits.specs.declared.Phase.{Phase}
 use Rattle.shape.specs.Fits.{Fits, Bounded}
 use Rattle.shape.specs.Phases.{stands}
 use Rattle.shape.specs.declared.EmployeeOn.{EmployeeOn}
 use Rattle.shape.specs.declared.EmployerOn.{EmployerOn}
 use Rattle.shape.specs.declared.Said.{Said}
 use Rattle.shape.specs.declared.Said.the-variants.{OfA, OfE, OfS, OfT, OfF, OfNone}
-use Rattle.record.specs.ShapeOf.{shapeOf, lawfulOf}
+use Rattle.shape.specs.Limits.{mostEmployees, mostFein}
+use Rattle.record.specs.ShapeOf.{shapeOf}
+use Rattle.record.specs.Laws.{lawfulOf}
 use Rattle.tables.specs.Room.{Room, entriesUsed}
 use Rattle.shape.specs.After.{phaseAfter, filedAfter, openAfter, andId, idsWith, totalsAfter}
 use Rattle.meaning.specs.Before.{phaseIn, filedIn, openIn, idsUnder, totalsIn}
 use Rattle.meaning.specs.Meaning.{contextAt}
 use Rattle.state.specs.Cents.{one-more}
-use Rattle.walk.specs.At.{begun, done, Good}
+
+-- How many A records, open E records and F records a phase tells of.
+abbrev pub begun : Phase → ℕ
+begun BeforeA = 0
+begun AfterA = 1
+begun EOpen = 1
+begun AfterT = 1
+begun AfterF = 1
+
+abbrev pub opens : Phase → ℕ
+opens BeforeA = 0
+opens AfterA = 0
+opens EOpen = 1
+opens AfterT = 0
+opens AfterF = 0
+
+abbrev pub done : Phase → ℕ
+done BeforeA = 0
+done AfterA = 0
+done EOpen = 0
+done AfterT = 0
+done AfterF = 1
+
+-- What holds of records that were taken, one after the other, with so much room.
+pub record Good (room : Room) (held : Opening) (p : List Said) : Type 0 where
+  pub ids-fit : length (idsUnder p) ≤ room .ids
+  pub list-fit : totalsIn p .employers ≤ entriesUsed room
+  -- An open E is one of those counted.
+  pub some : opens (phaseIn p) ≤ totalsIn p .employers
+  pub many : totalsIn p .count ≤ mostEmployees
+  pub sum : totalsIn p .sum ≤ totalsIn p .count * shapeOf (held .format) .mostCents
+  pub under : openIn p .count ≤ totalsIn p .count
+  pub under-sum : openIn p .sum ≤ openIn p .count * shapeOf (held .format) .mostCents
+  pub fein : openIn p .fein ≤ mostFein
+  pub quarter : shapeOf (held .format) .quarterUnfit (phaseIn p) held (filedIn p) ≡ false
+  pub more : shapeOf (held .format) .unfitMore (room .ids) (length (idsUnder p)) (stands EOpen (phaseIn p)) (totalsIn p) (openIn p) ≡ false
+  -- Each E has at most one T, and an open one none yet.
+  pub lines : length p + opens (phaseIn p) ≤ begun (phaseIn p) + (totalsIn p .employers + totalsIn p .employers) + totalsIn p .count + done (phaseIn p)
 
 pub length-snoc : {A : Type 0} (l : List A) (x : A) → length (l ++ (x ∷ [])) ≡ length l + 1
 length-snoc l x = length-append l (x ∷ [])
@@ -58,7 +98,7 @@ e-place : (p : List Said) → (phaseIn p ≡ AfterA) ⊎ (phaseIn p ≡ AfterT) 
 e-place p (inl a) = (rw a, rw a)
 e-place p (inr t) = (rw t, rw t)
 
--- What holds of any record behind those taken: its quarter and the format's own numbers are not unfit.
+-- What holds of any record after those taken: its quarter and the format's own numbers are not unfit.
 pub record Kept (room : Room) (held : Opening) (p : List Said) (said : Said) : Type 0 where
   pub quarter : shapeOf (held .format) .quarterUnfit (phaseAfter said (phaseIn p)) held (filedAfter said (filedIn p)) ≡ false
   pub more : shapeOf (held .format) .unfitMore (room .ids) (length (idsWith said (idsUnder p))) (stands EOpen (phaseAfter said (phaseIn p))) (totalsAfter said (totalsIn p))

@@ -8,7 +8,9 @@ pub mod CallLaws
 pub mod WalkMeans
 pub mod WholeLaws
 pub mod TablesAt
+pub mod CallsInRow
 pub mod NeverUnfit
+pub mod AsInManual
 pub mod EmployersReported
 pub mod AtEnd
 pub mod LineAndRun

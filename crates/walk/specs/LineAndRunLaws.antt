@@ -1,4 +1,4 @@
--- A line and the plain S records behind it are calls, one for each line.
+-- Laws: a line and the plain S records after it are calls, one for each line.
 use Prim.Native.Nat.{ℕ, _+_, _≤_, _<_}
 use mathlib.Core.Bool.{Bool, true, false}
 use mathlib.Core.List.{List}
@@ -19,9 +19,9 @@ use Rattle.step.specs.Steps.{Out, outOf, lineStep}
 use Rattle.step.specs.declared.Answer.{Answer}
 use Rattle.employees.specs.Carries.{behind-refused, behind-carries}
 use Rattle.employees.specs.Runs.{Left, leftBy, behind}
-use Rattle.walk.specs.Calls.{calls}
-use Rattle.walk.specs.LineAndRun.{leftIn, withList, behindStep, linesStep}
-use Rattle.walk.specs.WholeLaws.{all, nextPlace, loop-done, loop-within, loop-refused, loop-taken}
+use Rattle.walk.specs.Calls.{calls, all}
+use Rattle.walk.specs.LineAndRun.{leftIn, withList, behindStep, linesStep, nextPlace}
+use Rattle.walk.specs.WholeLaws.{loop-done, loop-within, loop-refused, loop-taken}
 
 -- What the two calls of the code leave.
 pub both-left : (a r : Answer) (s xs zs : List ℕ) (ys list : List Employer) (walk : Walk) (t : Tables) → length ys ≡ length list → outOf a (tables xs ys) ≡ lineStep walk (firstLine s) t

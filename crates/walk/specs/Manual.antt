@@ -1,5 +1,4 @@
--- The sentence in the manual as one theorem: "'accepted' means the published edits found nothing, with each employer's totals below it; 'refused' gives the
--- first line, column and reason." Of the calls, whatever each is lent, and of a whole file in one slice.
+-- Laws: the sentence in the manual as one theorem: of the calls, whatever each is lent, and of a whole file in one slice.
 use Prim.Native.Nat.{ℕ}
 use mathlib.Core.Bool.{true}
 use mathlib.Core.List.{List, []}
@@ -9,27 +8,16 @@ use Rattle.lines.specs.Lines.{linesOf}
 use Rattle.tables.specs.Room.{Tables, roomOf}
 use Rattle.edits.specs.Formats.{mayOpen}
 use Rattle.edits.specs.declared.Opening.{Opening}
-use Rattle.edits.specs.declared.format.Format.{Format}
 use Rattle.meaning.specs.Meaning as meant
 use Rattle.meaning.specs.Meaning.{LineEdit, fileEdits, Outcome, recordsOnto, meaning}
-use Rattle.meaning.specs.Theorems.{NoneBroken, FirstBroken, not-refused, accepted-iff, first-is-first}
+use Rattle.meaning.specs.Theorems.{not-refused, accepted-iff, first-is-first}
 use Rattle.state.specs.UnfitLaws.{edit-not-0}
 use Rattle.step.specs.Moves.{allWell}
-use Rattle.step.specs.Steps.{Out}
 use Rattle.walk.specs.AtEnd.{refused-by-edit}
 use Rattle.walk.specs.Calls.{Lending, walked, leaves, wholeFile}
-use Rattle.walk.specs.EmployersReported.{Reported, reported}
+use Rattle.walk.specs.EmployersReported.{reported}
+use Rattle.walk.specs.AsInManual.{AsInManual}
 use Rattle.walk.specs.WalkMeans.{walk-means}
-
--- What the manual says of a file with these edits, of what a caller has at the end.
-pub record AsInManual (format : Format) (edits : List LineEdit) (file : List ℕ) (t : Tables) (o : Out) : Type 0 where
-  -- "'accepted' means the published edits found nothing": it is answered exactly if none is broken,
-  pub accepted-none-broken : o .says ≡ allWell → NoneBroken edits
-  pub none-broken-accepted : NoneBroken edits → o .says ≡ allWell
-  -- "with each employer's totals below it": the employers of the file are then in the list.
-  pub employers : o .says ≡ allWell → Reported format file t o
-  -- "'refused' gives the first line, column and reason": any other answer is the first broken edit in the stated order.
-  pub refused-first : (o .says ≡ allWell → ⊥) → FirstBroken edits (o .says)
 
 module _ (held : Opening) (allowed : mayOpen held ≡ true) (file : List ℕ) (t : Tables) where
   abbrev edits : List LineEdit

@@ -1,5 +1,5 @@
--- never-unfit: a walk from an opening whose state and tables nobody altered never answers 72.
-use Prim.Native.Nat.{ℕ, _+_, _≤_}
+-- Laws: never-unfit: a walk from an opening whose state and tables nobody altered never answers 72.
+use Prim.Native.Nat.{ℕ, _+_}
 use mathlib.Core.Bool.{Bool, true, false, false≢true}
 use mathlib.Core.List.{List, [], _∷_}
 use mathlib.Core.Logic.{_⊎_, inl, inr}
@@ -15,11 +15,11 @@ use Rattle.edits.specs.declared.Opening.{Opening}
 use Rattle.edits.specs.declared.Phase.{Phase}
 use Rattle.edits.specs.declared.Phase.the-variants.{BeforeA, AfterA, EOpen, AfterT, AfterF}
 use Rattle.shape.specs.Shape.{Judged, refusal, passed}
-use Rattle.record.specs.ShapeOf.{shapeOf, lawfulOf}
-use Rattle.record.specs.Laws.{refusal-left}
+use Rattle.record.specs.ShapeOf.{shapeOf}
+use Rattle.record.specs.Laws.{refusal-left, lawfulOf}
 use Rattle.shape.specs.EndOfInputLaws.{endTest}
 use Rattle.shape.specs.declared.Said.{Said}
-use Rattle.tables.specs.Pad.{length-pad}
+use Rattle.tables.specs.PadLaws.{length-pad}
 use Rattle.tables.specs.Room.{Room, Tables, roomOf, zeroed}
 use Rattle.tables.specs.Tables.{noEmployer}
 use Rattle.meaning.specs.Before.{phaseIn, totalsIn, entriesIn}
@@ -32,28 +32,16 @@ use Rattle.step.specs.MoveLaws.{line-fit, end-fit, open-refused}
 use Rattle.step.specs.Moves.{Moved, allWell, again, openingNotice}
 use Rattle.step.specs.Steps.{Out, written, carried, openStep, lineStep, endStep}
 use Rattle.step.specs.declared.Change.the-variants.{Nothing, Clear}
-use Rattle.walk.specs.At.{walkAt, acceptedAt, tablesAt, Good}
+use Rattle.walk.specs.At.{walkAt, acceptedAt, tablesAt}
 use Rattle.walk.specs.Calls.{refusedWith, leaves}
 use Rattle.walk.specs.CallLaws.{file-sound-at}
-use Rattle.walk.specs.GoodLaws.{good-none}
+use Rattle.walk.specs.GoodLaws.{good-none, Good}
 use Rattle.walk.specs.WalkMeans.{again-line, again-end, ends-by, line-refused, line-taken, taken-good}
 use Rattle.walk.specs.StepLaws.{entries-within}
 use Rattle.walk.specs.TablesAt.{opened-at}
+use Rattle.walk.specs.CallsInRow.{Call, callStep, afterCalls, lineCall, endCall}
 
--- A call, on the state and the tables that the last one left.
-pub data Call : Type 0 where
-  lineCall : List ℕ → Call
-  endCall : Call
-
-abbrev pub callStep : Call → Out → Out
-callStep (lineCall bytes) o = lineStep (o .walk) (firstLine bytes) (o .left)
-callStep endCall o = endStep (o .walk) (o .left)
-
-abbrev pub afterCalls : List Call → Out → Out
-afterCalls [] o = o
-afterCalls (call ∷ more) o = afterCalls more (callStep call o)
-
--- Where a walk that nobody altered stands: behind records that were taken; accepted; or refused.
+-- Where a walk that nobody altered stands: after records that were taken; accepted; or refused.
 pub record Reads (room : Room) (held : Opening) (o : Out) : Type 0 where
   pub allowed : mayOpen held ≡ true
   pub p : List Said

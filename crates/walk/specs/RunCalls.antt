@@ -1,12 +1,11 @@
--- A run is line calls: a line and the plain S records behind it, taken at once, are as many line calls one after the other.
-use Prim.Native.Nat.{ℕ, zero, suc, _+_, _<_}
+-- Laws: a run is line calls: a line and the plain S records after it, taken at once, are as many line calls one after the other.
+use Prim.Native.Nat.{ℕ, suc, _<_}
 use mathlib.Core.Bool.{Bool, true, false}
 use mathlib.Core.List.{List}
 use mathlib.Core.Path.{_≡_, refl, sym, ap, subst, _∙_}
 use native.Mathlib.Nat.{zero-add}
 use native.Mathlib.Omega.{arith}
 use lib.Dec.{eqb}
-use lib.ListN.{drop}
 use borrow.Author.Tests.{eqb-true, eqb-false}
 use Rattle.lines.specs.Lines.{firstLine}
 use Rattle.tables.specs.Room.{Tables}
@@ -14,30 +13,7 @@ use Rattle.state.specs.Walks.{Walk}
 use Rattle.step.specs.Steps.{Out, lineStep}
 use Rattle.walk.specs.LineAndRun.{linesStep}
 use Rattle.walk.specs.LineAndRunLaws.{lines-carry, refused-alone}
-
--- Where a caller stands after some line calls: the bytes taken so far, the state and the tables.
-pub record Stood : Type 0 where
-  pub at : ℕ
-  pub walk : Walk
-  pub left : Tables
-
--- One line call on the bytes that remain.
-abbrev pub callAt : List ℕ → Stood → Out
-callAt s stood = lineStep (stood .walk) (firstLine (drop (stood .at) s)) (stood .left)
-
-abbrev pub onFrom : Stood → Out → Stood
-onFrom stood o = record { at = stood .at + o .taken; walk = o .walk; left = o .left }
-
--- So many line calls, each lent the bytes from where the last one ended.
-unfoldable pub lineCalls : List ℕ → Stood → ℕ → Stood
-lineCalls s stood zero = stood
-lineCalls s stood (suc n) = onFrom (lineCalls s stood n) (callAt s (lineCalls s stood n))
-
--- What is answered is what the last of some line calls in a row leaves, all of them taken.
-pub record AreCalls (s : List ℕ) (from : Stood) (to : Stood) : Type 0 where
-  pub count : ℕ
-  pub ends : lineCalls s from count ≡ to
-  pub taken : (k : ℕ) → k < count → callAt s (lineCalls s from k) .taken ≡ 0 → ⊥
+use Rattle.walk.specs.CallsInRow.{Stood, callAt, onFrom, lineCalls, AreCalls}
 
 calls-none : (s : List ℕ) (from : Stood) → AreCalls s from from
 unfolding lineCalls

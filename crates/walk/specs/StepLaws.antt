@@ -1,4 +1,4 @@
--- One call on a walk that nobody altered: it answers as the records before say, and leaves what the records with this one more leave.
+-- Laws: one call on a walk that nobody altered: it answers as the records before say, and leaves what the records with this one more leave.
 use Prim.Native.Nat.{ℕ, _+_, _-_, _≤_, _<_}
 use mathlib.Core.Bool.{Bool, true, false, false≢true}
 use mathlib.Core.List.{List, [], _∷_, _++_}
@@ -19,7 +19,8 @@ use Rattle.shape.specs.declared.EmployerOn.{EmployerOn}
 use Rattle.shape.specs.declared.Said.{Said}
 use Rattle.shape.specs.declared.Said.the-variants.{OfA, OfE, OfS, OfT, OfF, OfNone}
 use Rattle.tables.specs.Last.{closed-padded}
-use Rattle.tables.specs.Pad.{pad, pad-none, length-pad, take-pad, set-pad, wiped-pad}
+use Rattle.tables.specs.Pad.{pad}
+use Rattle.tables.specs.PadLaws.{pad-none, length-pad, take-pad, set-pad, wiped-pad}
 use Rattle.tables.specs.Room.{Room, Tables, tables, roomOf, entriesUsed}
 use Rattle.tables.specs.Tables.{noEmployer, feinsOf}
 use Rattle.tables.specs.declared.Employer.{Employer}
@@ -30,8 +31,8 @@ use Rattle.meaning.specs.Meaning.{contextAt}
 use Rattle.step.specs.Moves.{walkAfter, changeBy}
 use Rattle.step.specs.Steps.{written}
 use Rattle.step.specs.declared.Change.the-variants.{Nothing, Adds}
-use Rattle.walk.specs.At.{walkAt, tablesAt, opens, Good}
-use Rattle.walk.specs.GoodLaws.{length-snoc}
+use Rattle.walk.specs.At.{walkAt, tablesAt}
+use Rattle.walk.specs.GoodLaws.{length-snoc, opens, Good}
 
 -- ---- the tables
 module _ (room : Room) (held : Opening) (p : List Said) (g : Good room held p) where

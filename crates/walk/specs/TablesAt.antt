@@ -1,4 +1,4 @@
--- tables-at: what the tables hold after any lines that were taken, in a walk whose state and tables nobody altered.
+-- Laws: tables-at: what the tables hold after any lines that were taken, in a walk whose state and tables nobody altered.
 use Prim.Native.Nat.{ℕ}
 use mathlib.Core.Bool.{true}
 use mathlib.Core.List.{List, [], _∷_}
@@ -6,7 +6,6 @@ use mathlib.Core.Path.{_≡_, refl, sym, ap, subst, _∙_}
 use Rattle.lines.specs.Lines.{Line, firstLine}
 use Rattle.edits.specs.Formats.{mayOpen}
 use Rattle.edits.specs.declared.Opening.{Opening}
-use Rattle.edits.specs.declared.format.Format.{Format}
 use Rattle.shape.specs.Shape.{Judged, refusal, passed}
 use Rattle.record.specs.Judge.{recordOn}
 use Rattle.record.specs.Laws.{passed-size}
@@ -16,24 +15,10 @@ use Rattle.meaning.specs.Meaning.{contextAt, onEarlierE, underThisE, judgeAt}
 use Rattle.state.specs.Walks as walks
 use Rattle.step.specs.MoveLaws.{open-allowed}
 use Rattle.step.specs.Steps.{Out, openStep, lineStep}
-use Rattle.walk.specs.At.{walkAt, tablesAt, Good}
-use Rattle.walk.specs.GoodLaws.{good-none}
+use Rattle.walk.specs.At.{walkAt, tablesAt}
+use Rattle.walk.specs.GoodLaws.{good-none, Good}
 use Rattle.walk.specs.WalkMeans.{from-start, line-refused, line-taken, taken-good}
-
--- Line calls, one after the other, that all take their line: none answers that it took 0 bytes.
-abbrev pub AllTaken : List (List ℕ) → Out → Type 0
-AllTaken [] o = Unit {0}
-AllTaken (bytes ∷ more) o =
-    (lineStep (o .walk) (firstLine bytes) (o .left) .taken ≡ 0 → ⊥) × AllTaken more (lineStep (o .walk) (firstLine bytes) (o .left))
-
-abbrev pub afterLines : List (List ℕ) → Out → Out
-afterLines [] o = o
-afterLines (bytes ∷ more) o = afterLines more (lineStep (o .walk) (firstLine bytes) (o .left))
-
--- The records of what the calls were lent, the nearest first.
-abbrev pub lentRecords : Format → List Said → List (List ℕ) → List Said
-lentRecords format p [] = p
-lentRecords format p (bytes ∷ more) = lentRecords format (recordOn format (firstLine bytes) ∷ p) more
+use Rattle.walk.specs.CallsInRow.{AllTaken, afterLines, lentRecords}
 
 module _ (room : Room) (held : Opening) (allowed : mayOpen held ≡ true) where
   abbrev StandsAt : List Said → Out → Type 0

@@ -1,4 +1,4 @@
--- walk-means: for every file, quarter, table lengths and lending, the calls answer and leave what the file means.
+-- Laws: walk-means: for every file, quarter, table lengths and lending, the calls answer and leave what the file means.
 use Prim.Native.Nat.{ℕ, zero, suc, _+_, _-_, _≤_}
 use mathlib.Core.Bool.{Bool, true, false}
 use mathlib.Core.List.{List, [], _∷_}
@@ -12,7 +12,7 @@ use Rattle.laws.specs.Finding.{Finding}
 use Rattle.reason.specs.ReasonNumbers.{Notice, notice}
 use Rattle.lines.specs.Laws.{from-nil, from-skip, from-line}
 use Rattle.lines.specs.Lines.{Line, firstLine, sizeOf, linesFrom}
-use Rattle.lines.specs.Window.{Lent}
+use Rattle.lines.specs.Lent.{Lent}
 use Rattle.calendar.specs.Quarters.{isAllowed}
 use Rattle.chars.specs.Characters.{capitals}
 use Rattle.edits.specs.FormatLaws.{opens-known}
@@ -28,7 +28,7 @@ use Rattle.shape.specs.Shape.{Judged, refusal, passed}
 use Rattle.shape.specs.Fits.{Bounded}
 use Rattle.shape.specs.EndOfInputLaws.{endTest, end-parts}
 use Rattle.shape.specs.declared.Said.{Said}
-use Rattle.tables.specs.Pad.{pad-none}
+use Rattle.tables.specs.PadLaws.{pad-none}
 use Rattle.tables.specs.Room.{Room, Tables, roomOf, zeroed}
 use Rattle.tables.specs.Tables.{noEmployer}
 use Rattle.meaning.specs.Before.{phaseIn, idsUnder, totalsIn, entriesIn}
@@ -41,10 +41,10 @@ use Rattle.state.specs.Walks.{refusedWalk}
 use Rattle.step.specs.MoveLaws.{line-fit, end-fit, open-allowed, open-refused}
 use Rattle.step.specs.Moves.{Moved, allWell, again, refuses, accepts, byVerdict, endVerdict, openingNotice}
 use Rattle.step.specs.Steps.{Out, carried, lineStep, endStep}
-use Rattle.walk.specs.At.{walkAt, tablesAt, Good}
+use Rattle.walk.specs.At.{walkAt, tablesAt}
 use Rattle.walk.specs.CallLaws.{pieces-are-whole, line-at, end-at}
 use Rattle.walk.specs.Calls.{Lending, calls, walked, refusedWith, leaves, wholeFile}
-use Rattle.walk.specs.GoodLaws.{Kept, good-none, good-more}
+use Rattle.walk.specs.GoodLaws.{Kept, good-none, good-more, Good}
 use Rattle.walk.specs.StepLaws.{room-at, used-after, after-said, wrote, ids-none}
 
 -- ---- a refused walk
@@ -117,7 +117,7 @@ module _ (room : Room) (held : Opening) (allowed : mayOpen held ≡ true) where
       ∙ ap (λ (v : Judged). carried (byVerdict (walkAt held p) v) (tablesAt room p)) e
       ∙ rw (after-said held p said, wrote room held p g said fits)
 
-  -- No clause of 72 comes to hold behind a record that passes.
+  -- No clause of 72 comes to hold after a record that passes.
   kept : (p : List Said) → Good room held p → (line : Line) (taken : ℕ) (said : Said) → judgeAt room held p line ≡ passed taken said → Kept room held p said
   kept p g line taken said e =
       let here = contextAt room held p in

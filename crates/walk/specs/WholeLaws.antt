@@ -1,4 +1,4 @@
--- The calls of a loop over a whole file: each is lent all that remains.
+-- Laws: the calls of a loop over a whole file: each is lent all that remains.
 use Prim.Native.Nat.{ℕ, zero, suc, _+_, _-_, _≤_, _<_}
 use mathlib.Core.Bool.{Bool, true, false}
 use mathlib.Core.List.{List, [], _∷_}
@@ -27,12 +27,8 @@ use Rattle.state.specs.Walks.{Standing, reading, accepted, refused, Walk}
 use Rattle.step.specs.MoveLaws.{line-cases}
 use Rattle.step.specs.Moves.{Moved, byVerdict, contextOf, byStanding, lineMoved}
 use Rattle.step.specs.Steps.{Out, listedFein, listedId, openStep, lineStep, endStep}
-use Rattle.walk.specs.Calls.{Lending, calls, wholeFile}
+use Rattle.walk.specs.Calls.{Lending, calls, wholeFile, all}
 use Rattle.walk.specs.WalkMeans.{next, walk-means}
-
--- All that remains.
-abbrev pub all : ℕ → ℕ
-all remain = remain
 
 all-lending : (format : Format) → Lending format all
 all-lending format remain = inr (le-refl remain)
@@ -103,10 +99,6 @@ taken-within walk t s = moved-within (roomOf t) (listedFein walk t) (listedId wa
 -- ---- the loop: the call at a place of the file is lent the part from there to the end
 pub rest : (at : ℕ) (s : List ℕ) → take (length s - at) (drop at s) ≡ drop at s
 rest at s = take-all (length s - at) (drop at s) (simp length-drop (omega arith))
-
--- Where the loop goes on after a line: behind the bytes taken, or at the end after a refusal.
-abbrev pub nextPlace : ℕ → ℕ → ℕ → ℕ
-nextPlace at taken end = if eqb taken 0 then end else (at + taken)
 
 pub loop-done : (file : List ℕ) (at : ℕ) (walk : Walk) (t : Tables) → length file ≤ at → calls all 0 (drop at file) walk t ≡ endStep walk t
 loop-done file at walk t h = ap (λ (s : List ℕ). calls all 0 s walk t) (drop-of-length-le file {i = at} h) ∙ calls-end walk t

@@ -20,8 +20,7 @@ ghost use Rattle.step.specs.Questions.{feinAskedBy, idAskedBy, lookedAt, idFoun
 ghost use Rattle.step.specs.Steps.{idsAfter, listAfter, outOf, openStep, lineStep, endStep};
 ghost use Rattle.walk.specs.Writes.{noWrites, writesOf};
 ghost use Rattle.walk.specs.Calls.{wholeFile};
-ghost use Rattle.walk.specs.LineAndRun.{linesStep};
-ghost use Rattle.walk.specs.WholeLaws.{nextPlace};
+ghost use Rattle.walk.specs.LineAndRun.{linesStep, nextPlace};
 
 // What is written into the employer list: the first so many entries zeroed, a FEIN at a place, a count and cents at a place. A place past the end
 // is none.

@@ -8,15 +8,15 @@ use lib.Dec.{T}
 use lib.ListN.{length, getD}
 use Rattle.laws.specs.Finding.{fine, value}
 use Rattle.lines.specs.Cutting.{cutting}
-use Rattle.lines.specs.MadeLines.{LineEnd, endBytes, made-text, made-cut}
+use Rattle.lines.specs.MadeLines.{made-text, made-cut}
+use Rattle.lines.specs.LineEnds.{LineEnd, endBytes}
 use Rattle.lines.specs.Lines.{Line, firstLine, sizeOf}
 use Rattle.chars.specs.Characters.{capitals}
 use Rattle.chars.specs.CharacterLaws.{capitals-already}
 use Rattle.chars.specs.Columns.{everyColumn}
 use Rattle.chars.specs.ColumnLaws.{columns-fine, column-permitted}
 use Rattle.chars.specs.declared.columns.Allowed.the-variants.{Permitted}
-use Rattle.edits.specs.Edit.{firstBroken}
-use Rattle.edits.specs.EditLaws.{AllFine}
+use Rattle.edits.specs.Edit.{firstBroken, AllFine}
 use Rattle.edits.specs.FieldEdits.{fieldEdits}
 use Rattle.edits.specs.declared.Phase.{Phase}
 use Rattle.edits.specs.declared.Seen.{Seen}

@@ -7,15 +7,15 @@ use native.Mathlib.Omega.{arith}
 use lib.Dec.{eqb, leb}
 use lib.ListN.{length}
 use borrow.Author.Tests.{leb-false, lt-leb, eq-eqb}
-use Rattle.laws.specs.Choice.{both-hold}
+use Rattle.laws.specs.ChoiceLaws.{both-hold}
 use Rattle.laws.specs.Spelling.{bytes}
 use Rattle.reason.specs.ReasonNumbers.{Notice, notice}
-use Rattle.lines.specs.MadeLines.{LineEnd, endBytes}
+use Rattle.lines.specs.LineEnds.{LineEnd, endBytes}
 use Rattle.lines.specs.Lines.{firstLine}
 use Rattle.chars.specs.Characters.{capitals}
 use Rattle.chars.specs.CharacterLaws.{capitals-length}
 use Rattle.number.specs.NumberLaws.{number-below}
-use Rattle.edits.specs.EditLaws.{AllFine}
+use Rattle.edits.specs.Edit.{AllFine}
 use Rattle.edits.specs.FormatLaws.{pfml-is}
 use Rattle.edits.specs.Formats.{isPfml}
 use Rattle.edits.specs.FieldEdits.{fieldEdits}

@@ -16,7 +16,7 @@ use Rattle.number.specs.Numbers.{valueIn}
 use Rattle.number.specs.NumberColumnLaws.{reads-value, value-reads}
 use Rattle.text.specs.Text.{hasPattern}
 use Rattle.text.specs.TextLaws.{Fixed, pattern-columns, columns-pattern}
-use Rattle.edits.specs.EditLaws.{AllFine}
+use Rattle.edits.specs.Edit.{AllFine}
 use Rattle.edits.specs.FieldEdits.{fieldEdits}
 use Rattle.edits.specs.declared.Context.{Context}
 use Rattle.edits.specs.declared.Seen.{Seen}

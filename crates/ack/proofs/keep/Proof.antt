@@ -6,7 +6,8 @@ use borrow.Author.Needs.{needs}
 use lib.ListN.{length, length-set}
 use Rattle.ack.proofs.keep.Statement.{statement}
 use Rattle.ack.proofs.keep.Tie as tie
-use Rattle.ack.specs.Keep.{moved, moved-none, moved-next}
+use Rattle.ack.specs.Keep.{moved}
+use Rattle.ack.specs.KeepLaws.{moved-none, moved-next}
 
 abbrev Inv-loop : tie.InvT-loop
 Inv-loop buf₀ at end stop from₀ n₀ buf from n = (from ≡ at + n) × (n ≤ stop - at) × (length buf ≡ length buf₀) × (buf ≡ moved at n buf₀)

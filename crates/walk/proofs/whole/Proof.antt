@@ -25,8 +25,8 @@ use Rattle.step.proofs.Answer as An
 use Rattle.step.proofs.Answer.Laws as An′
 use Rattle.step.proofs.Reply as R
 use Rattle.step.proofs.Reply.Laws as R′
-use Rattle.walk.specs.Calls.{calls, wholeFile}
-use Rattle.walk.specs.WholeLaws.{all, whole-means, loop-done}
+use Rattle.walk.specs.Calls.{calls, wholeFile, all}
+use Rattle.walk.specs.WholeLaws.{whole-means, loop-done}
 use Rattle.walk.specs.LineAndRunLaws.{run-within, run-next, run-farther}
 use Rattle.walk.proofs.WalkValues.{opening-val, state-val, answer-val, reply-val, reply-in, state-in}
 use Rattle.walk.proofs.Called.{opens, lines-at, next-place, ends as end-call}

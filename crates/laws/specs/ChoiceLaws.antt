@@ -1,0 +1,18 @@
+-- Laws: of two tests that both hold each holds, and a number that passes two tests lies within their bounds.
+use Prim.Native.Nat.{ℕ, _≤_}
+use mathlib.Core.Bool.{Bool, true, false, _&&_, false≢true}
+use mathlib.Core.Path.{_≡_, refl}
+use lib.Dec.{leb}
+use borrow.Author.Tests.{leb-true}
+
+-- Of two tests that both hold, each holds.
+pub both-hold : (a b : Bool) → a && b ≡ true → (a ≡ true) × (b ≡ true)
+both-hold true true e = (refl, refl)
+both-hold true false e = absurd (false≢true e)
+both-hold false b e = absurd (false≢true e)
+
+-- A number within two bounds, from the test of both.
+pub within : (low n high : ℕ) → leb low n && leb n high ≡ true → (low ≤ n) × (n ≤ high)
+within low n high e =
+    let both = both-hold (leb low n) (leb n high) e in
+    (leb-true low n (both .0), leb-true n high (both .1))
