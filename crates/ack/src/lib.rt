@@ -1,4 +1,5 @@
-// The acknowledgement of a wage file that is read piece by piece: its header, and one turn on the bytes held.
+// The acknowledgement of a wage file that is read piece by piece: its header, and one turn on the
+// bytes held.
 use calendar::Quarter;
 use edits::Opening;
 use edits::format::Format;
@@ -28,13 +29,15 @@ pub enum Progress {
     Finished(State),
 }
 
-// What a turn leaves: where the program stands, and how many of the bytes held it took. What it did not take is to stand before the next read.
+// What a turn leaves: where the program stands, and how many of the bytes held it took. What it did
+// not take is to stand before the next read.
 pub struct Turned {
     pub taken: usize,
     pub progress: Progress,
 }
 
-// The last closed quarter that the input begins with: six digits YYYYMM and LF. What is no such header is no quarter, which the opening refuses with 70.
+// The last closed quarter that the input begins with: six digits YYYYMM and LF. What is no such
+// header is no quarter, which the opening refuses with 70.
 fn header_quarter(bytes: &[u8]) -> Quarter
     ensures { λ r. ⌜ r ≡ headerQuarter (now (bytes .entry)) ⌝ }
 {
@@ -66,7 +69,8 @@ pub fn header(format: Format, bytes: &[u8]) -> Opening
     }
 }
 
-// So many bytes show a line whole, whatever its format: the longest record of any format has 512 characters, and the longest line end 2.
+// So many bytes show a line whole, whatever its format: the longest record of any format has 512
+// characters, and the longest line end 2.
 const LONGEST_LINE: usize = 514;
 
 // Whether a line may be taken: the longest would be held whole, or no more will come.
@@ -88,7 +92,8 @@ fn has_header(ended: bool, held: usize) -> bool
     7 <= held
 }
 
-// A place in the bytes held. `last`: behind the lines from there on comes the end call, since no more bytes will come, or a line was refused.
+// A place in the bytes held. `last`: after the lines from there on comes the end call, since no
+// more bytes will come, or a line was refused.
 struct Place {
     at: usize,
     last: bool,
@@ -140,8 +145,8 @@ fn walking(st: State, at: usize, held: usize) -> Turned
     }
 }
 
-// Takes lines from a place on while the longest line would be held whole, or the input has ended; then, or after a refusal, makes the end call. A place
-// past the end is the end.
+// Takes lines from a place on while the longest line would be held whole, or the input has ended;
+// then, or after a refusal, makes the end call. A place past the end is the end.
 fn lines_turn(
     opened: State,
     bytes: &[u8],
@@ -169,7 +174,8 @@ fn lines_turn(
     walking(st, here.at, bytes.len())
 }
 
-// How a turn starts: with the header, with the lines that a state awaits, or not at all, and then with how many bytes taken.
+// How a turn starts: with the header, with the lines that a state awaits, or not at all, and then
+// with how many bytes taken.
 struct Start {
     opens: bool,
     walks: bool,
@@ -177,7 +183,8 @@ struct Start {
     state: State,
 }
 
-// The header is read as soon as its bytes are held, or no more will come. Where no walk is under way the state is one that is not opened, which none reads.
+// The header is read as soon as its bytes are held, or no more will come. Where no walk is under
+// way the state is one that is not opened, which none reads.
 fn start_of(progress: Progress, ended: bool, held: usize) -> Start
     ensures { λ r. ⌜ startingOf r ≡ starting (progressOf progress) ended held ⌝ }
 {
@@ -228,8 +235,8 @@ pub fn turn(
     }
 }
 
-// Moves the bytes from `at` up to `end` to the front of the buffer, as far as there are any, and tells how many they are: what a turn did not take, before
-// the next read.
+// Moves the bytes from `at` up to `end` to the front of the buffer, as far as there are any, and
+// tells how many they are: what a turn did not take, before the next read.
 pub fn keep(buf: &mut [u8], at: usize, end: usize) -> usize
     ensures { λ r. ⌜ record { count = r; bytes = now (buf .exit) } ≡ kept at end (now (buf .entry)) ⌝ }
 {

@@ -1,4 +1,5 @@
-// Reads a header and a wage file of PFML from standard input and writes the acknowledgement to standard output.
+// Reads a header and a wage file of PFML from standard input and writes the acknowledgement to
+// standard output.
 use edits::format::Format;
 use program::Telling;
 

@@ -1,1 +1,2 @@
-// Demand 3: what an acknowledgement tells of the employees. All of it is in specs/: this crate has no code.
+// Demand 3: what an acknowledgement tells of the employees. All of it is in specs/: this crate has
+// no code.

@@ -1,4 +1,4 @@
--- account-read-back, no-account-reads: the account number that a record was built with is read back; "An empty account number gives ten blanks."
+-- Laws: account-read-back, no-account-reads: the account number that a record was built with is read back; "An empty account number gives ten blanks."
 use Prim.Native.Nat.{ℕ, zero, suc, _+_, _-_, _<_, _≤_}
 use mathlib.Core.Bool.{Bool, true, false}
 use mathlib.Core.List.{List, [], _∷_, map}
@@ -31,7 +31,8 @@ use Rattle.build.specs.Building.{partOf, building}
 use Rattle.build.specs.FillLaws.{padded-is}
 use Rattle.build.specs.StandLaws.{Stands, each-at, record-stands, blank-columns, none-read}
 use Rattle.build.specs.BuiltTextLaws.{only-blanks}
-use Rattle.build.specs.Theorems.{amount-only, known-letters, Built, built-slice, built-passes, field-read-back}
+use Rattle.build.specs.Theorems.{amount-only, known-letters, built-slice, built-passes, field-read-back}
+use Rattle.build.specs.BuiltRecords.{Built}
 use Rattle.build.specs.Values.{amount, none, noAccount, formOf, Filled, formIn, fillRows, fillRecord, trimmed, textIn, amountIn, readBy, asRead}
 use Rattle.build.specs.declared.form.Form.{Form}
 use Rattle.build.specs.declared.form.Form.the-variants.{Account}

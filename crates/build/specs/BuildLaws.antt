@@ -1,4 +1,4 @@
--- What a call that builds a record answers and leaves in the slice, case by case.
+-- Laws: what a call that builds a record answers and leaves in the slice, case by case.
 use Prim.Native.Nat.{ℕ}
 use mathlib.Core.List.{List}
 use mathlib.Core.Path.{_≡_, sym, _∙_}

@@ -1,4 +1,4 @@
--- "Build A, E and S records from unpadded field values into a lent 290-byte slice".
+-- Definitions: "Build A, E and S records from unpadded field values into a lent 290-byte slice".
 use Prim.Native.Nat.{ℕ, _^_}
 use mathlib.Core.Bool.{Bool, true}
 use mathlib.Core.List.{List, [], _∷_, _++_, map}

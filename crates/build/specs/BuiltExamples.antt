@@ -1,4 +1,4 @@
--- Records built and turned away, computed from the definitions.
+-- Laws: records built and turned away, computed from the definitions.
 use Prim.Native.Nat.{ℕ, _-_}
 use Prim.Native.String.{String}
 use mathlib.Core.List.{List, [], _∷_, _++_, map}
@@ -71,7 +71,7 @@ call letter values texts size stated =
 
 abbrev pub calls : List Call
 calls =
-    -- numbers with zeros in front, texts in capitals with blanks behind
+    -- numbers with zeros in front, texts in capitals with blanks after
     call 83 (employee 10 4) (bytes "O'Neil-RoyAnne") 290 (λ out. built (
     wide 30 "S123456789O'NEIL-ROY" ++ wide 15 "ANNE" ++ wide 18 "062026" ++ wide 79 "00000000123456" ++ wide 148 "PFML012345678")) ∷
     -- "An empty account number gives ten blanks."

@@ -1,4 +1,4 @@
--- The laws of texts without trailing blanks, and of how many digits a number has.
+-- Laws: texts without trailing blanks, and how many digits a number has.
 use Prim.Native.Nat.{ℕ, zero, suc, _+_, _-_, _/_, _^_, _<_, _≤_, min}
 use mathlib.Core.Bool.{Bool, true, false}
 use mathlib.Core.List.{List, [], _∷_, _++_}

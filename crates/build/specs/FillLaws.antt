@@ -1,4 +1,4 @@
--- The laws of filling rows with values, as a loop over the rows uses them.
+-- Laws: filling rows with values, as a loop over the rows uses it.
 use Prim.Native.Nat.{ℕ, _+_, _-_, _<_, _≤_, min}
 use mathlib.Core.Bool.{Bool, true, false}
 use mathlib.Core.List.{List, [], _∷_, map}

@@ -1,4 +1,4 @@
--- built-left-to-walk: "Rules that look at other records or the quarter held stay with the walk", and nothing else does.
+-- Laws: built-left-to-walk: "Rules that look at other records or the quarter held stay with the walk", and nothing else does.
 use Prim.Native.Nat.{ℕ, _<_, _≤_}
 use mathlib.Core.Bool.{Bool, true, false, false≢true}
 use mathlib.Core.List.{List, [], _∷_, _++_, map}
@@ -29,7 +29,8 @@ use Rattle.pfml.specs.declared.kind.Kind.the-variants.{Transmitter, Employer, E
 use Rattle.build.specs.Building.{building}
 use Rattle.build.specs.FillLaws.{padded-read}
 use Rattle.build.specs.StandLaws.{each-at}
-use Rattle.build.specs.Theorems.{Built, given, built-slice, built-passes, field-read-back}
+use Rattle.build.specs.Theorems.{given, built-slice, built-passes, field-read-back}
+use Rattle.build.specs.BuiltRecords.{Built}
 use Rattle.build.specs.Values.{none, words, valueBy, Filled, formIn, fillRows, trimmed, textIn, asRead}
 
 -- ---- the letter

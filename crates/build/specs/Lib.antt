@@ -1,5 +1,6 @@
 pub mod Values
 pub mod Building
+pub mod BuiltRecords
 pub mod RowLaws
 pub mod FillLaws
 pub mod BuildLaws

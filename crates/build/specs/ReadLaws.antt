@@ -1,4 +1,4 @@
--- Every field of a padded record whose values fit reads as its value.
+-- Laws: every field of a padded record whose values fit reads as its value.
 use Prim.Native.Nat.{ℕ, suc}
 use mathlib.Core.Bool.{Bool, true, false}
 use mathlib.Core.List.{List, [], _∷_}
@@ -17,7 +17,8 @@ use Rattle.pfml_fields.specs.Fit.{isNumber}
 use Rattle.edits.specs.Tests.{Readable}
 use Rattle.build.specs.Building.{fitsIn}
 use Rattle.build.specs.RowLaws.{AllReadable}
-use Rattle.build.specs.StandLaws.{Each, Stands, amount-read, amount-ink, none-read, words-read}
+use Rattle.build.specs.StandLaws.{Stands, amount-read, amount-ink, none-read, words-read}
+use Rattle.build.specs.BuiltRecords.{Each, Fits, ReadsBack}
 use Rattle.build.specs.Values.{amount, none, words, formOf, noAccount, valueBy, takenBy, Filled, formIn, fillRows, amountIn, readBy, asRead}
 use Rattle.build.specs.declared.form.Form.{Form}
 use Rattle.build.specs.declared.form.Form.the-variants.{Amount, Account, Words, Letter, Code, Blank}
@@ -73,13 +74,6 @@ module _ (first last : ℕ) (final : List ℕ) (size : length final ≡ 290) whe
   by-form Blank letter entry texts readable s fits = ap words (words-read first last final _ s size fits)
 
 -- ---- all fields
-abbrev pub Fits : Filled → Type 0
-Fits field = fitsIn (widthOf (field .first) (field .last)) (field .value) ≡ true
-
--- "Reading a built record gives the values back, with capitals for small letters and without trailing blanks."
-abbrev pub ReadsBack : List ℕ → Filled → Type 0
-ReadsBack line field = readBy (formOf (field .class)) line (field .first) (field .last) ≡ asRead (field .value)
-
 module _ (letter : ℕ) (final : List ℕ) (size : length final ≡ 290) where
   pub all-read : (rows : List (List ℕ)) (values texts : List ℕ) → AllReadable rows
       → Each (λ (field : Filled). Stands (field .first) (field .last) (field .value) final) (fillRows letter rows values texts)

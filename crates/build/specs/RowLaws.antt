@@ -1,4 +1,4 @@
--- The rows of the record that a letter names: where they stand in the list of all fields, and how wide their numbers are.
+-- Laws: the rows of the record that a letter names: where they stand in the list of all fields, and how wide their numbers are.
 use Prim.Native.Nat.{ℕ, _+_, _<_, _≤_}
 use mathlib.Core.Bool.{true, false≢true}
 use mathlib.Core.List.{List, []}

@@ -1,4 +1,4 @@
--- The values in the built record: each stands in its own columns as it was put in, and is read back from there.
+-- Laws: the values in the built record: each stands in its own columns as it was put in, and is read back from there.
 use Prim.Native.Nat.{ℕ, zero, suc, _+_, _-_, _^_, _<_, _≤_}
 use mathlib.Core.Bool.{Bool, true, false, false≢true}
 use mathlib.Core.List.{List, [], _∷_, _++_, map}
@@ -34,11 +34,7 @@ use Rattle.build.specs.Building.{partBy, partOf}
 use Rattle.build.specs.RowLaws.{rows-tiled}
 use Rattle.build.specs.BuiltTextLaws.{trim-blanks}
 use Rattle.build.specs.Values.{Value, amount, none, words, takenBy, formIn, Filled, filled, fillRows, fillRecord, trimmed, textIn}
-
--- Of every field.
-abbrev pub Each : (Filled → Type 0) → List Filled → Type 0
-Each P [] = Unit {0}
-Each P (field ∷ fields) = P field × Each P fields
+use Rattle.build.specs.BuiltRecords.{Each}
 
 -- So of field k, counted from 0, with the class and the columns that its row has.
 pub each-at : (P : Filled → Type 0) (letter : ℕ) (rows : List (List ℕ)) (values texts : List ℕ) → Each P (fillRows letter rows values texts)
@@ -58,7 +54,7 @@ each-at P letter (row ∷ rows) values texts all (suc k) h = each-at P letter ro
 take-short : (n : ℕ) (text : List ℕ) → length (take n text) ≤ n
 take-short n text = rw length-take (min-le-left n (length text))
 
--- A value that is put in leaves the columns before and behind its own.
+-- A value that is put in leaves the columns before and after its own.
 put-elsewhere : (first last : ℕ) (v : Value) → first - 1 ≤ last → (line : List ℕ) (j : ℕ) → (j < first - 1) ⊎ (last ≤ j)
     → getD (put (partBy first last v) line) j 0 ≡ getD line j 0
 put-elsewhere first last (amount v) h line j side = put-number-elsewhere line first last v h j side

@@ -1,4 +1,4 @@
--- built-read-back, built-passes, turned-away-iff: what a caller may rely on when a record is built, and when it is not.
+-- Laws: built-read-back, built-passes, turned-away-iff: what a caller may rely on when a record is built, and when it is not.
 use Prim.Native.Nat.{ℕ, _+_, _<_, _≤_}
 use mathlib.Core.Bool.{Bool, true, false}
 use mathlib.Core.List.{List, [], _∷_, _++_, map}
@@ -32,9 +32,10 @@ use Rattle.write.specs.PartLaws.{puts-keep}
 use Rattle.write.specs.Records.{recordOf}
 use Rattle.build.specs.Building.{partOf, padded, fitsIn, filledEdits, editsOfAll, buildEdits, builtBy, building}
 use Rattle.build.specs.FillLaws.{padded-is, padded-length}
-use Rattle.build.specs.ReadLaws.{Fits, ReadsBack, all-read}
+use Rattle.build.specs.ReadLaws.{all-read}
+use Rattle.build.specs.BuiltRecords.{Built, Each, Fits, ReadsBack, Passes}
 use Rattle.build.specs.RowLaws.{rows-tiled, rows-readable}
-use Rattle.build.specs.StandLaws.{Each, each-at, record-stands}
+use Rattle.build.specs.StandLaws.{each-at, record-stands}
 use Rattle.build.specs.Values.{amount, none, Filled, formIn, fillRows, fillRecord, amountIn, readBy, asRead}
 use Rattle.build.specs.declared.form.Form.{Form}
 use Rattle.build.specs.declared.form.Form.the-variants.{Amount}
@@ -67,12 +68,6 @@ says-fine (broken column number) line out some says = absurd (some column number
 each-more : (P Q : Filled → Type 0) (fields : List Filled) → ((field : Filled) → P field → Q field) → Each P fields → Each Q fields
 each-more P Q [] more all = tt
 each-more P Q (field ∷ fields) more all = (more field (all .0), each-more P Q fields more (all .1))
-
--- What is asked of a field: its value fits, its characters are permitted, and its own rules refuse nothing in the padded record.
-pub record Passes (landmarks : Landmarks) (line : List ℕ) (field : Filled) : Type 0 where
-  pub fits : Fits field
-  pub permitted : everyColumn Permitted line (field .first) (field .last) ≡ fine
-  pub own-fine : AllFine (own landmarks (bytes "PFML") (field .class) line (field .first) (field .last))
 
 module _ (landmarks : Landmarks) (line : List ℕ) where
   fine-each : (fields : List Filled) → AllFine (editsOfAll landmarks line fields) → Each (Passes landmarks line) fields
@@ -120,23 +115,19 @@ amount-only (refused column number) v e = let z : _≡_ {A = ℕ} 0 1 = cc in ab
 pub known-letters : (isKnown (kindOf 65) ≡ true) × (isKnown (kindOf 69) ≡ true) × (isKnown (kindOf 83) ≡ true)
 known-letters = (ap isKnown kind-of-A, ap isKnown kind-of-E, ap isKnown kind-of-S)
 
--- The record of a letter is built from values and texts: the call is answered by "accepted".
-abbrev pub Built : ℕ → List ℕ → List ℕ → List ℕ → Type 0
-Built letter values texts out = building letter values texts out .says ≡ allWell
-
 module _ (letter : ℕ) (values texts out : List ℕ) where
-  abbrev pub marksFor : Landmarks
-  marksFor = landmarksOf (kindOf letter)
+  abbrev pub landmarksFor : Landmarks
+  landmarksFor = landmarksOf (kindOf letter)
 
   abbrev pub given : List Filled
   given = fillRecord letter values texts
 
-  no-edit : Built letter values texts out → firstBroken (buildEdits marksFor given (length out)) ≡ fine
+  no-edit : Built letter values texts out → firstBroken (buildEdits landmarksFor given (length out)) ≡ fine
   unfolding building
   no-edit built =
-      let edits = buildEdits marksFor given (length out) in
+      let edits = buildEdits landmarksFor given (length out) in
       says-fine (firstBroken edits) (padded given) out
-      (λ column number e. first-of-list edits (build-labelled marksFor given (length out)) column number e .by-label .not-accepted) built
+      (λ column number e. first-of-list edits (build-labelled landmarksFor given (length out)) column number e .by-label .not-accepted) built
 
   -- Then the slice is the padded record.
   pub built-slice : Built letter values texts out → building letter values texts out .out ≡ padded given
@@ -144,29 +135,29 @@ module _ (letter : ℕ) (values texts out : List ℕ) where
   built-slice built = rw (no-edit built)
 
   -- A refusal is the first broken edit in the stated order, told by its label, and the slice is then as it was.
-  pub refused-first : (column number : ℕ) → firstBroken (buildEdits marksFor given (length out)) ≡ broken column number
-      → (building letter values texts out ≡ record { says = notice number 0 column; out = out }) × FirstIn (buildEdits marksFor given (length out)) column number
+  pub refused-first : (column number : ℕ) → firstBroken (buildEdits landmarksFor given (length out)) ≡ broken column number
+      → (building letter values texts out ≡ record { says = notice number 0 column; out = out }) × FirstIn (buildEdits landmarksFor given (length out)) column number
   unfolding building
   refused-first column number e =
-      (rw e, first-of-list (buildEdits marksFor given (length out)) (build-labelled marksFor given (length out)) column number e)
+      (rw e, first-of-list (buildEdits landmarksFor given (length out)) (build-labelled landmarksFor given (length out)) column number e)
 
   -- turned-away-iff: it is built exactly if the slice has 290 bytes and every value passes; so it is turned away exactly if the slice has another
   -- length, or a value is too long for its field, or it holds a bad character, or the field's own rules refuse the padded result.
   pub turned-away-iff :
-      (Built letter values texts out → (length out ≡ 290) × Each (Passes marksFor (padded given)) given)
-      × ((length out ≡ 290) × Each (Passes marksFor (padded given)) given → Built letter values texts out)
+      (Built letter values texts out → (length out ≡ 290) × Each (Passes landmarksFor (padded given)) given)
+      × ((length out ≡ 290) × Each (Passes landmarksFor (padded given)) given → Built letter values texts out)
   unfolding building
   turned-away-iff = (
     λ built.
-        let all = fine-all (buildEdits marksFor given (length out)) (no-edit built) in
-        (eqb-true (length out) 290 (unless-fine _ 0 84 (all .0)), fine-each marksFor (padded given) given (all .1)),
+        let all = fine-all (buildEdits landmarksFor given (length out)) (no-edit built) in
+        (eqb-true (length out) 290 (unless-fine _ 0 84 (all .0)), fine-each landmarksFor (padded given) given (all .1)),
     λ passes.
-        let found = all-fine (buildEdits marksFor given (length out)) (rw (eq-eqb (length out) 290 (passes .0)) refl, each-fine marksFor (padded given) given (passes .1)) in
+        let found = all-fine (buildEdits landmarksFor given (length out)) (rw (eq-eqb (length out) 290 (passes .0)) refl, each-fine landmarksFor (padded given) given (passes .1)) in
         rw found,
   )
 
   module _ (known : isKnown (kindOf letter) ≡ true) (built : Built letter values texts out) where
-    passing : Each (Passes marksFor (padded given)) given
+    passing : Each (Passes landmarksFor (padded given)) given
     passing = turned-away-iff .0 built .1
 
     final-length : length (recordOf (map partOf given)) ≡ 290
@@ -178,7 +169,7 @@ module _ (letter : ℕ) (values texts out : List ℕ) where
         rw (built-slice built, padded-is given)
         (all-read letter (recordOf (map partOf given)) final-length (rowsFor (kindOf letter)) values texts (rows-readable (kindOf letter) known)
         (record-stands letter values texts known)
-        (each-more (Passes marksFor (padded given)) Fits given (λ field passes. passes .fits) passing))
+        (each-more (Passes landmarksFor (padded given)) Fits given (λ field passes. passes .fits) passing))
 
     -- The same of field k, counted from 0, by the row that the readers take; and of a number: it is read as the number given.
     pub field-read-back : (k : ℕ) → k < length (rowsFor (kindOf letter))
@@ -200,14 +191,14 @@ module _ (letter : ℕ) (values texts out : List ℕ) where
     pub built-passes :
         (length (building letter values texts out .out) ≡ 290)
         × (everyColumn Permitted (building letter values texts out .out) 1 290 ≡ fine)
-        × Each (λ (field : Filled). AllFine (own marksFor (bytes "PFML") (field .class) (building letter values texts out .out) (field .first) (field .last))) given
+        × Each (λ (field : Filled). AllFine (own landmarksFor (bytes "PFML") (field .class) (building letter values texts out .out) (field .first) (field .last))) given
     built-passes =
         rw (built-slice built) (
           padded-length given,
           columns-fine Permitted (padded given) 1 290
               (λ k low high. columns-everywhere letter (padded given) (rowsFor (kindOf letter)) 1 values texts (rows-tiled (kindOf letter) known)
-              (each-more (Passes marksFor (padded given)) (λ (field : Filled). everyColumn Permitted (padded given) (field .first) (field .last) ≡ fine) given
+              (each-more (Passes landmarksFor (padded given)) (λ (field : Filled). everyColumn Permitted (padded given) (field .first) (field .last) ≡ fine) given
               (λ field passes. passes .permitted) passing) k (omega arith) high),
-          each-more (Passes marksFor (padded given)) (λ (field : Filled). AllFine (own marksFor (bytes "PFML") (field .class) (padded given) (field .first) (field .last))) given
+          each-more (Passes landmarksFor (padded given)) (λ (field : Filled). AllFine (own landmarksFor (bytes "PFML") (field .class) (padded given) (field .first) (field .last))) given
               (λ field passes. passes .own-fine) passing,
         )

@@ -1,4 +1,4 @@
--- The values that a record is built from, and what a field reads as.
+-- Definitions: the values that a record is built from, and what a field reads as.
 use Prim.Native.Nat.{ℕ, _-_}
 use mathlib.Core.List.{List, [], _∷_}
 use lib.Dec.{eqb}
@@ -84,7 +84,7 @@ abbrev pub filled : ℕ → List ℕ → ℕ → List ℕ → Filled
 filled letter row entry texts =
     record { class = classOf (classIn row); first = firstIn row; last = lastIn row; value = valueBy (formIn row) letter entry texts }
 
--- One entry for each row, 0 where there is none; the texts one behind the other.
+-- One entry for each row, 0 where there is none; the texts one after the other.
 unfoldable pub fillRows : ℕ → List (List ℕ) → List ℕ → List ℕ → List Filled
 fillRows letter [] values texts = []
 fillRows letter (row ∷ rows) values texts =

@@ -21,6 +21,7 @@ pub enum Form {
 // The entry of an account number that is left out.
 pub const NO_ACCOUNT: u64 = 18446744073709551615;
 
+// How the value of a field of this class is given: as a number, as a text, or not at all.
 pub fn form_of(class: Class) -> Form
     ensures { λ r. ⌜ r ≡ formOf class ⌝ }
 {

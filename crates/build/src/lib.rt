@@ -1,8 +1,10 @@
 // A, E and S records built from unpadded values into a lent slice.
 //
-// `values` has one entry for each field of the record, in the order of its table: of a number the number, of a text how many characters of `texts`
-// it takes, where the texts stand one behind the other; the entries of the letter, the entity code and blank space are not looked at. An entry past
-// the end is 0, and a text ends where `texts` ends; what is left over of either is not looked at.
+// `values` has one entry for each field of the record, in the order of its table: of a number the
+// number, of a text how many characters of `texts` it takes, where the texts stand one after the
+// other; the entries of the letter, the entity code and blank space are not looked at. An entry
+// past the end is 0, and a text ends where `texts` ends; what is left over of either is not looked
+// at.
 pub mod form;
 pub mod read;
 mod rows;

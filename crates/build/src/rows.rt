@@ -1,4 +1,5 @@
-// The fields of a record, row by row: their values put into a line, and the first of their edits that the line breaks.
+// The fields of a record, row by row: their values put into a line, and the first of their edits
+// that the line breaks.
 use crate::form;
 use crate::value;
 use chars::columns;

@@ -1,4 +1,5 @@
-// The value of a field: what it takes of the texts, whether it fits, and how it is put into the field's columns.
+// The value of a field: what it takes of the texts, whether it fits, and how it is put into the
+// field's columns.
 use crate::form::Form;
 use crate::form::NO_ACCOUNT;
 use text::put;

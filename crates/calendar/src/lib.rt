@@ -13,7 +13,8 @@ pub struct Quarter {
     pub month: u64,
 }
 
-// How a quarter stands to the last closed one: it is closed, it is the current one, or it is later than that.
+// How a quarter stands to the last closed one: it is closed, it is the current one, or it is later
+// than that.
 pub enum Timing {
     Closed,
     Current,
@@ -68,7 +69,8 @@ fn is_same(a: Quarter, b: Quarter) -> bool
     false
 }
 
-// The current quarter, which is the one right after the last closed; that one itself where none is after it.
+// The current quarter, which is the one right after the last closed; that one itself where none is
+// after it.
 pub fn current_quarter(held: Quarter) -> Quarter
     ensures { λ r. ⌜ r ≡ currentQuarter held ⌝ }
 {
@@ -125,8 +127,8 @@ fn is_leap(year: u64) -> bool
     year % 4 == 0
 }
 
-// A month's days in a common year, 0 for a number that is no month. By rule: 31 and 30 take turns from January on, and anew from August on; February has
-// 28.
+// A month's days in a common year, 0 for a number that is no month. By rule: 31 and 30 take turns
+// from January on, and anew from August on; February has 28.
 fn month_days(month: u64) -> u64
     ensures { λ r. ⌜ r ≡ monthDays month ⌝ }
 {
@@ -172,7 +174,8 @@ fn year_of(date: u64) -> u64
     date % 10000
 }
 
-// Whether MMDDYYYY, read as one number, is a calendar date. A number of more than eight digits has no month.
+// Whether MMDDYYYY, read as one number, is a calendar date. A number of more than eight digits has
+// no month.
 pub fn is_date(date: u64) -> bool
     ensures { λ r. ⌜ r ≡ isDate date ⌝ }
 {

@@ -42,8 +42,8 @@ pub fn column_edit(allowed: Allowed, line: &[u8], column: u16) -> Edit
     }
 }
 
-// Whether the characters of the places from..to all lie between two, both among them. Every one is looked at, so that a compiler can compare several at
-// once. Behind the line's end there is none.
+// Whether the characters of the places from..to all lie between two, both among them. Every one is
+// looked at, so that a compiler can compare several at once. Behind the line's end there is none.
 fn all_between(line: &[u8], from: usize, to: usize, low: u8, high: u8) -> bool
     requires { ⌜ 0 < low ⌝ }
     ensures { λ r. ⌜ r ≡ allPass (isBetween low high) (now (line .entry)) from (to - from) ⌝ }
@@ -93,7 +93,8 @@ pub fn all_hold(allowed: Allowed, line: &[u8], first: u16, last: u16) -> bool
     }
 }
 
-// The first column of first to last that does not hold what it may. Most often there is none, so that is asked first.
+// The first column of first to last that does not hold what it may. Most often there is none, so
+// that is asked first.
 pub fn every_column(allowed: Allowed, line: &[u8], first: u16, last: u16) -> Edit
     ensures { λ r. ⌜ findingOf r ≡ everyColumn allowed (capitals (now (line .entry))) first last ⌝ }
 {

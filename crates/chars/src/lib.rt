@@ -6,6 +6,7 @@ ghost use Prim.Native.Nat.{_-_};
 ghost use lib.ListN.{getD};
 ghost use Rattle.chars.specs.Characters.{isPermitted, capitalOf, capitals, isBlank, isDigit, isLetter, isOfName};
 
+// Whether a character may stand in a file at all: hex 20 to 7E.
 pub fn is_permitted(c: u8) -> bool
     ensures { λ r. ⌜ r ≡ isPermitted c ⌝ }
 {
@@ -15,12 +16,14 @@ pub fn is_permitted(c: u8) -> bool
     c <= 0x7e
 }
 
+// Whether it is a blank.
 pub fn is_blank(c: u8) -> bool
     ensures { λ r. ⌜ r ≡ isBlank c ⌝ }
 {
     c == b' '
 }
 
+// Whether it is one of 0 to 9.
 pub fn is_digit(c: u8) -> bool
     ensures { λ r. ⌜ r ≡ isDigit c ⌝ }
 {
@@ -30,6 +33,7 @@ pub fn is_digit(c: u8) -> bool
     c <= b'9'
 }
 
+// Whether it is one of A to Z.
 pub fn is_letter(c: u8) -> bool
     ensures { λ r. ⌜ r ≡ isLetter c ⌝ }
 {
@@ -39,6 +43,7 @@ pub fn is_letter(c: u8) -> bool
     c <= b'Z'
 }
 
+// Whether a name may hold it.
 pub fn is_of_name(c: u8) -> bool
     ensures { λ r. ⌜ r ≡ isOfName c ⌝ }
 {
@@ -66,7 +71,7 @@ fn capital(c: u8) -> u8
     c - 32
 }
 
-// The character at a place of the line as it is read, 0 behind its end.
+// The character at a place of the line as it is read, 0 after its end.
 pub fn char_at(line: &[u8], at: usize) -> u8
     ensures { λ r. ⌜ r ≡ getD (capitals (now (line .entry))) at 0 ⌝ }
 {

@@ -56,7 +56,7 @@ fn number_at(numbers: &[u8], k: usize) -> u8
     0
 }
 
-// The rules of a field behind its class test: its own, then those of the context.
+// The rules of a field after its class test: its own, then those of the context.
 fn rules_edit(
     landmarks: Landmarks,
     code: [u8; 4],
@@ -85,7 +85,8 @@ fn rules_edit(
     }
 }
 
-// Where to look for a broken column from: behind the last one, where every column holds what it may; else at the first.
+// Where to look for a broken column from: after the last one, where every column holds what it may;
+// else at the first.
 fn look_from(allowed: Allowed, line: &[u8], first: u16, last: u16) -> u16
     ensures { λ r. ⌜ everyColumn allowed (capitals (now (line .entry))) first last ≡ firstOf (allowedTest allowed (capitals (now (line .entry)))) r (last - r) ⌝ }
 {
@@ -95,8 +96,8 @@ fn look_from(allowed: Allowed, line: &[u8], first: u16, last: u16) -> u16
     chars::index_of(first)
 }
 
-// The first broken column of the first broken field. A row of the list has a field's class, first and last column; the rule beside it, by number,
-// is that of its context.
+// The first broken column of the first broken field. A row of the list has a field's class, first
+// and last column; the rule beside it, by number, is that of its context.
 pub fn first_broken(
     landmarks: Landmarks,
     code: [u8; 4],

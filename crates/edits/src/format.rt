@@ -60,7 +60,8 @@ pub fn quarter_held(held: Opening) -> Quarter
     }
 }
 
-// Whether a walk may be opened so: the quarter is one that the paper allows, and the format is known.
+// Whether a walk may be opened so: the quarter is one that the paper allows, and the format is
+// known.
 pub fn may_open(held: Opening) -> bool
     ensures { λ r. ⌜ r ≡ mayOpen held ⌝ }
 {

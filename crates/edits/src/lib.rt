@@ -25,9 +25,10 @@ pub struct Opening {
     pub month: u64,
 }
 
-// The open E: its FEIN, whether it says that S records follow, and the S records under it with the sum of their wages in cents. The other numbers are
-// those of formats to come, and zero in PFML: a second sum; the records under it that are no S, and the nearest of these; whether a note was among them;
-// and the account number as two numbers to the base 256.
+// The open E: its FEIN, whether it says that S records follow, and the S records under it with the
+// sum of their wages in cents. The other numbers are those of formats to come, and zero in PFML: a
+// second sum; the records under it that are no S, and the nearest of these; whether a note was
+// among them; and the account number as two numbers to the base 256.
 pub struct Open {
     pub fein: u64,
     pub follow: bool,
@@ -41,8 +42,9 @@ pub struct Open {
     pub account_tail: u64,
 }
 
-// The whole file so far: its S records, its E records, and the sum of all wages in cents. The other numbers are those of formats to come, and zero in
-// PFML: the second sum, the records that are no S, and the notes.
+// The whole file so far: its S records, its E records, and the sum of all wages in cents. The other
+// numbers are those of formats to come, and zero in PFML: the second sum, the records that are no
+// S, and the notes.
 pub struct Totals {
     pub count: u64,
     pub employers: u64,
@@ -65,7 +67,8 @@ pub struct Context {
     pub list_full: bool,
 }
 
-// Whether the FEIN on the line stands on an earlier E, and whether the identity number on it stands under the open E.
+// Whether the FEIN on the line stands on an earlier E, and whether the identity number on it stands
+// under the open E.
 pub struct Seen {
     pub fein: bool,
     pub id: bool,

@@ -1,4 +1,4 @@
-// The rules of a field that look at its own record alone, behind its class test.
+// The rules of a field that look at its own record alone, after its class test.
 use crate::Landmarks;
 use chars::columns;
 use field::class::Class;
@@ -57,7 +57,7 @@ fn third_quarter_edit(landmarks: Landmarks, line: &[u8], first: u16) -> Edit
     Edit::Passed
 }
 
-// The own rules of a field, behind its class test.
+// The own rules of a field, after its class test.
 pub fn own_edit(
     landmarks: Landmarks,
     code: [u8; 4],

@@ -85,7 +85,8 @@ fn date_in_quarter(last_return: bool, v: u64, filed: Quarter, first: u16) -> Edi
     Edit::Passed
 }
 
-// Whether every E of a file must be a final return: in the current quarter. A file of a later one is refused at its A.
+// Whether every E of a file must be a final return: in the current quarter. A file of a later one
+// is refused at its A.
 fn must_be_final(timing: Timing) -> bool
     ensures { λ r. ⌜ r ≡ mustBeFinal timing ⌝ }
 {

@@ -1,4 +1,4 @@
--- A run is what a call for each of its lines would do: whatever each such call carries on, the run carries on.
+-- Laws: a run is what a call for each of its lines would do: whatever each such call carries on, the run carries on.
 use Prim.Native.Nat.{ℕ, zero, suc, _+_, _≤_}
 use mathlib.Core.Bool.{Bool, true, false}
 use mathlib.Core.List.{List, []}
@@ -92,7 +92,7 @@ module _ (s : List ℕ) (list : List Employer) (P : ℕ → Walk → Tables → 
     by rest true e = rw (goes-on s (length list) n r e) (rest (next-holds r e holds))
     by rest false e = rw (stops s (length list) (suc n) r e) holds
 
--- ---- behind a line
+-- ---- after a line
 -- Behind a line that was refused nothing is taken.
 pub behind-refused : (s : List ℕ) (n : ℕ) (o : Left) → o .taken ≡ 0 → behind s n o ≡ o
 unfolding behind
@@ -116,7 +116,7 @@ fine-says : (reply : Reply) → (takenIn reply ≡ 0 → ⊥) → noticeIn reply
 fine-says (Fine bytes) some = refl
 fine-says (Refused why) some = absurd (some refl)
 
--- What the code answers behind a line that was taken.
+-- What the code answers after a line that was taken.
 pub behind-run : (s : List ℕ) (n : ℕ) (a : Answer) (ids : List ℕ) (run : Run) (more : List ℕ) → (takenIn (a .reply) ≡ 0 → ⊥)
     → reachedBy run more ≡ reaches s n (length s) (takenIn (a .reply)) (walkOf (a .state)) ids
     → leftBy (record { state = run .state; reply = Fine (run .at) }) more ≡ behind s n (leftBy a ids)

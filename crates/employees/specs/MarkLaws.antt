@@ -1,4 +1,4 @@
--- The laws of the marks: the numbers in use are marked, whatever else is.
+-- Laws: the marks: the numbers in use are marked, whatever else is.
 use Prim.Native.Nat.{ℕ, zero, suc, _+_, _*_, _/_, _%_, _^_, _≤_, _<_, min, max}
 use mathlib.Core.Bool.{Bool, true, false, _||_, false≢true}
 use mathlib.Core.List.{List, [], _∷_, _++_}
@@ -102,7 +102,7 @@ module _ (marks : List ℕ) (ids : List ℕ) where
   pub covers-still : (id : ℕ) → Covers marks ids → Covers (withMark id marks) ids
   covers-still id covers other among = set-keeps marks (markOf id) (markOf other) (covers other among)
 
--- A number behind others, with its mark.
+-- A number after others, with its mark.
 one-more : (a b : Bool) → a || b ≡ true → (a ≡ true) ⊎ (b ≡ true)
 one-more true b e = inl refl
 one-more false b e = inr e

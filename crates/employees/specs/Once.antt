@@ -1,4 +1,4 @@
--- The paper's numbers lose nothing of what a run leaves: no second answer, and no second content of the id table, fits the promise of `behind`.
+-- Laws: the paper's numbers lose nothing of what a run leaves: no second answer, and no second content of the id table, fits the promise of `behind`.
 use Prim.Native.Nat.{ℕ}
 use mathlib.Core.List.{List, []}
 use mathlib.Core.Path.{_≡_, ap}

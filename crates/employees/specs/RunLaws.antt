@@ -1,4 +1,4 @@
--- The laws of a run: what holds of a line that a walk takes, what the walk is after it, and how far a run goes.
+-- Laws: a run: what holds of a line that a walk takes, what the walk is after it, and how far a run goes.
 use Prim.Native.Nat.{ℕ, zero, suc, _+_, _-_, _≤_, _<_, _^_}
 use mathlib.Core.Bool.{Bool, true, false, not, _&&_, _||_, false≢true, or-true}
 use mathlib.Core.List.{List}
@@ -190,7 +190,7 @@ module _ (list : ℕ) (walk : Walk) (ids : List ℕ) (s : List ℕ) (t : Taking 
 abbrev pub onward : List ℕ → ℕ → ℕ → Reached → Reached
 onward bytes list n r = reaches bytes list n (r .at) (r .walk) (r .ids)
 
--- What the sweep sees there, and where the run stands behind it.
+-- What the sweep sees there, and where the run stands after it.
 abbrev pub sightAt : List ℕ → Reached → Sighted
 sightAt bytes r = sightUnder (r .walk) (drop (r .at) bytes)
 

@@ -1,4 +1,4 @@
--- What a turn of the run's loop does: what holds at each line of a run, and what the line leaves.
+-- Laws: what a turn of the run's loop does: what holds at each line of a run, and what the line leaves.
 use Prim.Native.Nat.{ℕ, suc, _+_, _-_, _≤_, _<_, _^_}
 use mathlib.Core.Bool.{Bool, true, false, not, _&&_}
 use mathlib.Core.List.{List}
@@ -18,7 +18,7 @@ use Rattle.employees.specs.Marks.{withMark, Covers}
 use Rattle.employees.specs.RunLaws.{parts-await, takes-parts, roomFor, taken-ready, onward, sightAt, takesAt, next, none-left, goes-on, stops, Prepared, prepared-next}
 use Rattle.employees.specs.Runs.{isNew, hasRoom, saidIn, Reached}
 
--- Where a run stands behind a line of which this is seen.
+-- Where a run stands after a line of which this is seen.
 abbrev pub behindLine : Sighted → Reached → Reached
 behindLine v r =
     record {
@@ -68,7 +68,7 @@ module _ (bytes low high : List ℕ) (list most left : ℕ) (first r : Reached) 
   pub ends-here : isTaken v (r .walk) (r .ids) ≡ false → r ≡ onward bytes list most first
   ends-here e = sym (stops bytes list left r (takes-is ∙ e)) ∙ g .rest
 
-  -- The line is taken: no sum wraps, and the run goes on behind it.
+  -- The line is taken: no sum wraps, and the run goes on after it.
   pub taken-sums : isTaken v (r .walk) (r .ids) ≡ true → length (r .ids) < 2 ^ 64 → Ready (r .walk) (saidIn v)
   taken-sums e short =
       let t = takes-parts (roomFor (r .ids) list) (r .walk) (r .ids) (sightAt bytes r) (takes-is ∙ e) in

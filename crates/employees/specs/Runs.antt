@@ -68,7 +68,7 @@ reaches bytes list (suc n) at walk ids =
 abbrev pub reachedBy : Run → List ℕ → Reached
 reachedBy r ids = record { at = r .at; walk = walkOf (r .state); ids = ids }
 
--- ---- behind a line
+-- ---- after a line
 -- What a call for a line leaves but for the employer list.
 pub record Left : Type 0 where
   pub says : Notice
@@ -82,6 +82,6 @@ leftBy a ids = record { says = noticeIn (a .reply); taken = takenIn (a .reply); 
 abbrev pub leftAt : Notice → Reached → Left
 leftAt says r = record { says = says; taken = r .at; walk = r .walk; ids = r .ids }
 
--- The run behind a line that was taken; the bytes begin with that line.
+-- The run after a line that was taken; the bytes begin with that line.
 unfoldable pub behind : List ℕ → ℕ → Left → Left
 behind s list o = if eqb (o .taken) 0 then o else leftAt (o .says) (reaches s list (length s) (o .taken) (o .walk) (o .ids))

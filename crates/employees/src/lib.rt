@@ -34,7 +34,8 @@ pub struct Run {
     pub at: usize,
 }
 
-// Whether a walk takes S records at all: it is of PFML, an E is open that says that they follow, and the state is fit.
+// Whether a walk takes S records at all: it is of PFML, an E is open that says that they follow,
+// and the state is fit.
 fn awaits(st: State, ids: usize, list: usize) -> bool
     ensures { λ r. ⌜ r ≡ awaits (record { ids = ids; list = list }) (walkOf st) ⌝ }
 {
@@ -68,7 +69,8 @@ fn has_room(st: State) -> bool
     false
 }
 
-// The identity number is none, or new and there is room for it. It is looked for only where it is marked.
+// The identity number is none, or new and there is room for it. It is looked for only where it is
+// marked.
 fn is_new(ids: &[u32], used: usize, marks: &[u8], id: u64) -> bool
     requires { ⌜ (id < 4294967296) × Covers (now marks) (take used (now ids)) ⌝ }
     ensures { λ r. ⌜ r ≡ (eqb id 0 || (ltb used (length (now (ids .entry))) && not (isAmong id (take used (now (ids .entry)))))) ⌝ }
@@ -147,7 +149,7 @@ fn with_one(st: State, s: Sighted) -> State
     }
 }
 
-// Its identity number behind those in use; 0 takes no room.
+// Its identity number after those in use; 0 takes no room.
 fn keep(ids: &mut [u32], st: State, s: Sighted)
     requires { ⌜ s .id < 4294967296 ⌝ }
     ensures { λ _. ⌜ now (ids .exit) ≡ idsAfter (changeBy (saidIn s) (walkOf st)) (now (ids .entry)) ⌝ }
@@ -158,8 +160,9 @@ fn keep(ids: &mut [u32], st: State, s: Sighted)
     tables::ids::put(ids, st.used, s.id as u32);
 }
 
-// At most so many lines more, while the line at the place is one that the walk takes. Without marks every identity number is looked for. The length of the
-// employer list is spoken of by the contract alone: whether the state is fit rests on it.
+// At most so many lines more, while the line at the place is one that the walk takes. Without marks
+// every identity number is looked for. The length of the employer list is spoken of by the contract
+// alone: whether the state is fit rests on it.
 fn lines(
     begun: Run,
     bytes: &[u8],
@@ -190,7 +193,8 @@ fn lines(
     Run { state, at }
 }
 
-// At most so many lines more; marks are made, and only identity numbers that are marked are looked for.
+// At most so many lines more; marks are made, and only identity numbers that are marked are looked
+// for.
 fn marked(
     begun: Run,
     bytes: &[u8],
@@ -209,8 +213,8 @@ fn marked(
     lines(begun, bytes, ids, &mut marks, list, most, low, high)
 }
 
-// How many lines, of at most so many, are taken before marks are made: to make them takes about as long as 256 searches that begin with no number in use,
-// or as a few among many numbers.
+// How many lines, of at most so many, are taken before marks are made: to make them takes about as
+// long as 256 searches that begin with no number in use, or as a few among many numbers.
 fn few_lines(used: usize, most: usize) -> usize
     ensures { λ r. ⌜ (r ≤ 256) × (r ≤ most) ⌝ }
 {
@@ -272,7 +276,7 @@ fn run_from(opened: State, bytes: &[u8], from: usize, ids: &mut [u32], list: usi
     begun
 }
 
-// The run behind a line that was taken; the bytes from a place on begin with that line.
+// The run after a line that was taken; the bytes from a place on begin with that line.
 pub fn behind(a: Answer, bytes: &[u8], at: usize, ids: &mut [u32], list: usize) -> Answer
     ensures { λ r. ⌜ leftBy r (now (ids .exit)) ≡ behind (drop at (now (bytes .entry))) list (leftBy a (now (ids .entry))) ⌝ }
 {

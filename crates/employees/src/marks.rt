@@ -1,5 +1,6 @@
-// Marks of identity numbers, eight to a byte: a number whose mark is not set is none of those marked, so that most searches are saved. None of the functions
-// asks anything of the number of marks.
+// Marks of identity numbers, eight to a byte: a number whose mark is not set is none of those
+// marked, so that most searches are saved. None of the functions asks anything of the number of
+// marks.
 ghost use Prim.Native.Nat.{_<_};
 ghost use mathlib.Core.Path.{_≡_};
 ghost use lib.ListN.{take};

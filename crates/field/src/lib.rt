@@ -1,2 +1,3 @@
-// The classes of fields: a class, with a field's first and last column, says what the field is to hold, at any record length.
+// The classes of fields: a class, with a field's first and last column, says what the field is to
+// hold, at any record length.
 pub mod class;

@@ -17,8 +17,8 @@ ghost use Rattle.frames.specs.Pasted.{pasted, threeNumbers};
 ghost use Rattle.frames.specs.Frames.{employerFrame, employerFrames, refusalFrame, framedBy, fitted, isAccepted, framing};
 ghost use Rattle.frames.specs.FrameParts.{acceptedSize, acceptedEmployers, acceptedLast, employersFramed, lastFraming};
 
-// The bytes written; or why none is: the state is unfit (72, which a list shorter than the employers makes it too), the walk has not ended, the
-// buffer is too small.
+// The bytes written; or why none is: the state is unfit (72, which a list shorter than the
+// employers makes it too), the walk has not ended, the buffer is too small.
 pub enum Framed {
     Written(usize),
     Unfit,
@@ -103,7 +103,7 @@ fn accepted_employers(all: Totals, size: usize) -> usize
     all.employers as usize
 }
 
-// The closing frame, behind those of the employers.
+// The closing frame, after those of the employers.
 fn accepted(all: Totals, out: &mut [u8]) -> Framed
     requires { ⌜ all .employers ≤ mostEmployers ⌝ }
     ensures { λ r. ⌜ framedBy r (now (out .exit)) ≡ acceptedLast all (now (out .entry)) ⌝ }
@@ -158,7 +158,7 @@ fn employers_framed(st: State, room: usize, size: usize) -> usize
     0
 }
 
-// The last frame, behind those of the employers, and the answer.
+// The last frame, after those of the employers, and the answer.
 fn last_frame(st: State, room: usize, out: &mut [u8]) -> Framed
     ensures { λ r. ⌜ framedBy r (now (out .exit)) ≡ lastFraming (walkOf st) room (now (out .entry)) ⌝ }
 {
@@ -176,8 +176,9 @@ fn last_frame(st: State, room: usize, out: &mut [u8]) -> Framed
     refused(refusal, out)
 }
 
-// The acknowledgement of a walk that has ended, at the front of the buffer: at most 35 bytes for each employer and 35 more. Only the frames of
-// employers need the list, so all that is decided is decided without it.
+// The acknowledgement of a walk that has ended, at the front of the buffer: at most 35 bytes for
+// each employer and 35 more. Only the frames of employers need the list, so all that is decided is
+// decided without it.
 pub fn frames(st: State, list: &[Employer], out: &mut [u8]) -> Framed
     ensures { λ r. ⌜ framedBy r (now (out .exit)) ≡ framing (walkOf st) (now (list .entry)) (now (out .entry)) ⌝ }
 {

@@ -30,7 +30,9 @@ fn end_mark(b: u8) -> u8
     if is_end(b) { 1 } else { 0 }
 }
 
-// Whether the first line is shorter than n. Every one of n bytes is looked at, and what was found is kept as a number, so that a compiler can compare several at once; a truth value it takes apart, and compares byte by byte.
+// Whether the first line is shorter than n. Every one of n bytes is looked at, and what was found
+// is kept as a number, so that a compiler can compare several at once; a truth value it takes
+// apart, and compares byte by byte.
 fn is_shorter(s: &[u8], n: usize) -> bool
     ensures { λ r. ⌜ r ≡ ltb (length (textOf (now (s .entry)))) n ⌝ }
 {
@@ -46,7 +48,8 @@ fn is_shorter(s: &[u8], n: usize) -> bool
     found != 0
 }
 
-// Where to look for the end of the first line: at the last of `most` bytes, where the line is as long; else from the first on.
+// Where to look for the end of the first line: at the last of `most` bytes, where the line is as
+// long; else from the first on.
 fn look_from(s: &[u8], most: usize) -> usize
     ensures { λ r. ⌜ (r ≤ most) × (r ≤ length (textOf (now (s .entry)))) ⌝ }
 {
@@ -101,7 +104,7 @@ fn as_length(n: u16) -> usize
     n as usize
 }
 
-// The column behind the last one of a record of n characters.
+// The column after the last one of a record of n characters.
 fn column_beyond(n: u16) -> u16
     ensures { λ r. ⌜ r ≡ beyond n ⌝ }
 {
@@ -111,7 +114,8 @@ fn column_beyond(n: u16) -> u16
     n
 }
 
-// The first line of the bytes, which is to have n characters and an end. What stands behind its end is ignored.
+// The first line of the bytes, which is to have n characters and an end. What stands after its end
+// is ignored.
 pub fn cut_line(s: &[u8], n: u16) -> Cut
     ensures { λ r. ⌜ cutOf r ≡ cutting n (firstLine (now (s .entry))) ⌝ }
 {

@@ -40,7 +40,8 @@ fn places_before(line: &[u8], last: u16) -> u16
     last
 }
 
-// The field of columns first to last. A digit is read as it stands, since nothing becomes one in capitals; behind the line's end there is none.
+// The field of columns first to last. A digit is read as it stands, since nothing becomes one in
+// capitals; after the line's end there is none.
 pub fn read_number(line: &[u8], first: u16, last: u16) -> Number
     ensures { λ r. ⌜ readingOf r ≡ numberIn (capitals (now (line .entry))) first last ⌝ }
 {
@@ -80,7 +81,7 @@ pub fn value_in(line: &[u8], first: u16, last: u16) -> u64
     v
 }
 
-// A character at a place of the line; behind its end there is none to write.
+// A character at a place of the line; after its end there is none to write.
 fn put(line: &mut [u8], at: u16, c: u8)
     ensures { λ _. ⌜ now (line .exit) ≡ set (now (line .entry)) at c ⌝ }
 {

@@ -1,4 +1,4 @@
--- The edits of a text in the stated order.
+-- Definitions: the edits of a text of PFML in the stated order.
 use Prim.Native.Nat.{ℕ}
 use mathlib.Core.List.{List, [], _∷_, _++_}
 use Rattle.laws.specs.Spelling.{bytes}

@@ -1,4 +1,4 @@
--- The edits of S, one after the other, and its place.
+-- Laws: the edits of S, one after the other, and its place.
 use Prim.Native.Nat.{ℕ}
 use mathlib.Core.Bool.{true, not, _||_}
 use mathlib.Core.List.{List, [], _∷_}

@@ -1,4 +1,4 @@
--- The employee's columns on an S record, and the own rules of their fields, as demand 3 speaks of them.
+-- Definitions: the employee's columns on an S record, and the own rules of their fields, as demand 3 speaks of them.
 use Prim.Native.Nat.{ℕ}
 use mathlib.Core.Bool.{Bool, _&&_, _||_}
 use mathlib.Core.List.{List, _++_}

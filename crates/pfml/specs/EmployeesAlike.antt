@@ -1,4 +1,4 @@
--- Two S records that are alike but for the employee, in contexts alike but for the sums: edit by edit they find the same.
+-- Laws: two S records that are alike but for the employee, in contexts alike but for the sums: edit by edit they find the same.
 use Prim.Native.Nat.{ℕ, _+_}
 use mathlib.Core.Bool.{Bool, true, false, not, _&&_, _||_}
 use mathlib.Core.List.{List, [], _++_}

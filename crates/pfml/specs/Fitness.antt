@@ -1,4 +1,4 @@
--- 72, the clauses of its list that are PFML's own.
+-- Definitions: 72, the clauses of its list that are PFML's own.
 use Prim.Native.Nat.{ℕ}
 use mathlib.Core.Bool.{Bool, false, not, _&&_}
 use lib.Dec.{leb, ltb}

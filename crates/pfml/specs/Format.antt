@@ -1,4 +1,4 @@
--- PFML, the paid leave wage file: all that the machine knows of it. A reader of document 01 finds each part where it is named here.
+-- Definitions: PFML, the paid leave wage file: all that the machine knows of it. A reader of document 01 finds each part where it is named here.
 use Rattle.shape.specs.Shape.{Shape}
 use Rattle.pfml.specs.Edits.{editsOn}
 use Rattle.pfml.specs.Employees.{isPersonal, personalEdits}

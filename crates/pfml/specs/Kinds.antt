@@ -1,4 +1,4 @@
--- The five records.
+-- Definitions: the five records, by their letters.
 use Prim.Native.Nat.{ℕ}
 use mathlib.Core.Bool.{Bool, true, false}
 use mathlib.Core.List.{List}

@@ -1,4 +1,4 @@
--- Which record stands on a text, told from its letter and from what it says.
+-- Laws: which record stands on a text, told from its letter and from what it says.
 use Prim.Native.Nat.{ℕ, _+_, _≤_}
 use mathlib.Core.Bool.{Bool, true, false, _&&_, _||_}
 use mathlib.Core.List.{List}

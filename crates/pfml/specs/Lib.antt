@@ -1,6 +1,7 @@
 pub mod Kinds
 pub mod Place
 pub mod Edits
+pub mod ListedNumbers
 pub mod Says
 pub mod Fitness
 pub mod Employees

@@ -1,6 +1,5 @@
--- No edit is missing: the numbers listed for each record are, in order, exactly those of a small table copied from the paper, with 64 and
--- 65 of document 02, "right after 44 and before 45" and "after 47 there", and the first columns of a record's edits never fall. (These are the
--- edits' labels; that what an edit finds is told by its label is `text-labelled`.)
+-- Laws: no edit is missing: the numbers of each record's edits are, in order, exactly those of the table in ListedNumbers, and their first columns
+-- never fall. (These are the edits' labels; that what an edit finds is told by its label is `text-labelled`.)
 use Prim.Native.Nat.{ℕ}
 use mathlib.Core.Bool.{Bool, true, _&&_}
 use mathlib.Core.List.{List, [], _∷_, _++_, map, map-append}
@@ -20,68 +19,13 @@ use Rattle.edits.specs.declared.Context.{Context}
 use Rattle.edits.specs.declared.Seen.{Seen}
 use Rattle.edits.specs.declared.Rule.the-variants.{Nothing, YearInTime, QuarterInTime, YearOfA, PeriodOfA, FeinNew, FeinOfE, DateInQuarter, IdentityNew, CountOfS, WagesOfS, FileCountOfS, FileCountOfE, FileWagesOfS, FinalIfCurrent}
 use Rattle.pfml.specs.Kinds.{kindOn}
+use Rattle.pfml.specs.ListedNumbers.{numbersOf, neverFalls, numbersOfA, numbersOfE, numbersOfS, numbersOfT, numbersOfF, numbersFor, numbersOfHead, numbersOfText, numbersOfLine}
 use Rattle.pfml.specs.Edits.{rowsFor, around, headEdits, textEdits, rulesFor}
 use Rattle.pfml.specs.Format.{pfmlShape}
 use Rattle.shape.specs.Shape.{lineEditsBy}
 use Rattle.pfml_fields.specs.FieldRules.{rulesOfA, rulesOfE, rulesOfS, rulesOfT, rulesOfF}
 use Rattle.pfml.specs.declared.kind.Kind.{Kind}
 use Rattle.pfml.specs.declared.kind.Kind.the-variants.{Transmitter, Employer, Employee, Total, Final, Unknown}
-
-abbrev pub numbersOf : List Edit → List ℕ
-numbersOf edits = map (λ (edit : Edit). edit .number) edits
-
--- "then fields by first column"
-abbrev pub neverFalls : List Edit → Bool
-neverFalls [] = true
-neverFalls (edit ∷ []) = true
-neverFalls (edit ∷ next ∷ edits) = leb (edit .first) (next .first) && neverFalls (next ∷ edits)
-
--- The table, in the paper's numbers: a line for each field, the record's letter left out.
--- A
-abbrev pub numbersOfA : List ℕ
-numbersOfA =
-    30 ∷ 38 ∷ 39 ∷ 30 ∷ 44 ∷ 64 ∷ 34 ∷ 40 ∷ 41 ∷ 31 ∷ 32 ∷ 33 ∷ 32 ∷ 33 ∷ 32 ∷ 33 ∷ 35 ∷ 31 ∷ 36 ∷ 37 ∷ 32 ∷ 33 ∷ 30 ∷ 33 ∷ 31 ∷ []
-
--- E
-abbrev pub numbersOfE : List ℕ
-numbersOfE =
-    30 ∷ 38 ∷ 42 ∷ 30 ∷ 44 ∷ 64 ∷ 45 ∷ 63 ∷ 31 ∷ 32 ∷ 33 ∷ 32 ∷ 33 ∷ 32 ∷ 33 ∷ 35 ∷ 31 ∷ 37 ∷ 36 ∷ 31 ∷ 34 ∷ 31 ∷ 30 ∷ 31 ∷ 47 ∷
-    40 ∷ 43 ∷ 47 ∷ 47 ∷ 31 ∷ 32 ∷ 33 ∷ 32 ∷ 33 ∷ 30 ∷ 33 ∷ 31 ∷ 47 ∷ 65 ∷ 30 ∷ 50 ∷ 51 ∷ 48 ∷ 49 ∷ []
-
--- S
-abbrev pub numbersOfS : List ℕ
-numbersOfS =
-    30 ∷ 52 ∷ 53 ∷ 62 ∷ 32 ∷ 33 ∷ 54 ∷ 32 ∷ 33 ∷ 54 ∷ 31 ∷ 40 ∷ 43 ∷ 30 ∷ 38 ∷ 42 ∷ 31 ∷ 30 ∷ 31 ∷ 34 ∷ 30 ∷ 46 ∷ 31 ∷ []
-
--- T
-abbrev pub numbersOfT : List ℕ
-numbersOfT =
-    30 ∷ 55 ∷ 56 ∷ 34 ∷ 30 ∷ 46 ∷ 31 ∷ 30 ∷ 57 ∷ 31 ∷ []
-
--- F
-abbrev pub numbersOfF : List ℕ
-numbersOfF =
-    30 ∷ 58 ∷ 30 ∷ 59 ∷ 34 ∷ 31 ∷ 30 ∷ 60 ∷ 31 ∷ []
-
-abbrev pub numbersFor : Kind → List ℕ
-numbersFor Transmitter = numbersOfA
-numbersFor Employer = numbersOfE
-numbersFor Employee = numbersOfS
-numbersFor Total = numbersOfT
-numbersFor Final = numbersOfF
-numbersFor Unknown = []
-
--- Before the fields, "characters, letter, place", and 61.
-abbrev pub numbersOfHead : List ℕ
-numbersOfHead =
-    3 ∷ 4 ∷ 10 ∷ 11 ∷ 12 ∷ 13 ∷ 14 ∷ 15 ∷ 16 ∷ 17 ∷ 18 ∷ 19 ∷ 20 ∷ 61 ∷ []
-
--- The whole text: "characters, letter, place, then fields by first column"; and the line, with "length, end" before it.
-abbrev pub numbersOfText : Kind → List ℕ
-numbersOfText kind = numbersOfHead ++ numbersFor kind
-
-abbrev pub numbersOfLine : Kind → List ℕ
-numbersOfLine kind = 1 ∷ 2 ∷ numbersOfText kind
 
 pub listed-head : (here : Context) (text : List ℕ) (kind : Kind) → numbersOf (headEdits here text kind) ≡ numbersOfHead
 listed-head here text kind = refl

@@ -1,4 +1,4 @@
--- A refusal of a record's edits has one of the numbers listed for the record, so one from 1 to 65.
+-- Laws: a refusal of a record's edits has one of the numbers listed for the record, so one from 1 to 65.
 use Prim.Native.Nat.{ℕ}
 use mathlib.Core.Bool.{Bool, true, _&&_}
 use mathlib.Core.List.{List, [], _∷_, _++_}
@@ -14,7 +14,8 @@ use Rattle.edits.specs.declared.Seen.{Seen}
 use Rattle.pfml.specs.Edits.{textEdits}
 use Rattle.pfml.specs.Fitness.{isLeft}
 use Rattle.pfml.specs.TextLabelled.{text-labelled}
-use Rattle.pfml.specs.Listed.{numbersOf, numbersOfText, listed-text}
+use Rattle.pfml.specs.Listed.{listed-text}
+use Rattle.pfml.specs.ListedNumbers.{numbersOf, numbersOfText}
 use Rattle.pfml.specs.declared.kind.Kind.{Kind}
 use Rattle.pfml.specs.declared.kind.Kind.the-variants.{Transmitter, Employer, Employee, Total, Final, Unknown}
 

@@ -1,4 +1,4 @@
--- The own rules of an S record's fields let permitted characters alone pass: "hold only permitted characters" asks nothing more than they do.
+-- Laws: the own rules of an S record's fields let permitted characters alone pass: "hold only permitted characters" asks nothing more than they do.
 use Prim.Native.Nat.{ℕ, _+_, _<_, _≤_}
 use mathlib.Core.Bool.{Bool, true, false, _&&_, _||_}
 use mathlib.Core.List.{List}

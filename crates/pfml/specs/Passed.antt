@@ -1,4 +1,4 @@
--- What holds where a record passes: of the context, of the size of what the record says, and of the clauses of 72 behind it.
+-- Laws: what holds where a record passes: of the context, of the size of what the record says, and of the clauses of 72 after it.
 use Prim.Native.Nat.{ℕ, _+_, _≤_, _<_}
 use mathlib.Core.Bool.{Bool, true, false, not, _||_, false≢true}
 use mathlib.Core.List.{List, [], _∷_}
@@ -192,7 +192,7 @@ module _ (here : Context) (seen : Seen) where
   fits-by Final text all = place-of-F (here .phase) (here .open .follow) (split text Final all .0)
   fits-by Unknown text all = absurd (false≢true (unless-fine false 1 4 (all .1 .0)))
 
-  -- ---- 72: the quarter, and the ids in use, behind a record that passes
+  -- ---- 72: the quarter, and the ids in use, after a record that passes
   pub quarter-by : (kind : Kind) (text : List ℕ) → AllFine (textEdits here seen text kind) → quarterUnfit (here .phase) (here .held) (here .filed) ≡ false
       → quarterUnfit (phaseAfter (saidBy kind text) (here .phase)) (here .held) (filedAfter (saidBy kind text) (here .filed)) ≡ false
   quarter-by Transmitter text all e = rw (quarter-in-time here seen text (split text Transmitter all .2))

@@ -1,4 +1,4 @@
--- What PFML owes the machine.
+-- Laws: what PFML owes the machine, `Lawful` of its shape.
 use Prim.Native.Nat.{ℕ, _≤_}
 use mathlib.Core.Bool.{Bool, true, false, _&&_, _||_}
 use mathlib.Core.List.{List}

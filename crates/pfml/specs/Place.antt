@@ -1,4 +1,4 @@
--- The place of a record: which record may stand where.
+-- Definitions: the place of a record: which record may stand where.
 use Prim.Native.Nat.{ℕ}
 use mathlib.Core.Bool.{Bool, not, _&&_, _||_}
 use mathlib.Core.List.{List, [], _∷_}

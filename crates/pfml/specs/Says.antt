@@ -1,4 +1,4 @@
--- What a record that breaks no edit says to the walk.
+-- Definitions: what a record that breaks no edit says to the walk.
 use Prim.Native.Nat.{ℕ}
 use mathlib.Core.Bool.{Bool}
 use mathlib.Core.List.{List}

@@ -1,4 +1,4 @@
--- The edits of T and F, one after the other, and what makes a record pass that is one of the two.
+-- Laws: the edits of T and F, one after the other, and what makes a record pass that is one of the two.
 use Prim.Native.Nat.{ℕ}
 use mathlib.Core.Bool.{true, not, _&&_}
 use mathlib.Core.List.{List, [], _∷_}

@@ -1,4 +1,4 @@
--- What an edit of a text finds is told by its label.
+-- Laws: what an edit of a text finds is told by its label.
 use Prim.Native.Nat.{ℕ}
 use mathlib.Core.List.{List}
 use mathlib.Core.Path.{refl}

@@ -1,4 +1,4 @@
--- The edits of a text, part by part, as the code comes to them.
+-- Laws: the edits of a text, part by part, as the code comes to them.
 use Prim.Native.Nat.{ℕ}
 use mathlib.Core.List.{List}
 use mathlib.Core.Path.{_≡_, _∙_}

@@ -1,4 +1,4 @@
--- Every field of the five records is as wide as its class asks.
+-- Laws: every field of the five records is as wide as its class asks.
 use Prim.Native.Nat.{ℕ, suc, _+_, _-_, _<_, _≤_}
 use mathlib.Core.Bool.{true}
 use mathlib.Core.List.{[]}

@@ -58,6 +58,7 @@ fn employee_on(line: &[u8]) -> Said
     })
 }
 
+// What a record of this kind says to the walk.
 pub fn said_by(kind: Kind, line: &[u8]) -> Said
     ensures { λ r. ⌜ r ≡ saidBy kind (capitals (now (line .entry))) ⌝ }
 {
@@ -81,7 +82,8 @@ fn asks_for(line: &[u8], field: [u16; 3]) -> Asking
     }
 }
 
-// What a record asks of the employer list: an E whether its FEIN stands on an earlier E, another record nothing.
+// What a record asks of the employer list: an E whether its FEIN stands on an earlier E, another
+// record nothing.
 pub fn fein_asked(kind: Kind, line: &[u8]) -> Asking
     ensures { λ r. ⌜ r ≡ feinAsked (saidBy kind (capitals (now (line .entry)))) ⌝ }
 {
@@ -95,7 +97,8 @@ pub fn fein_asked(kind: Kind, line: &[u8]) -> Asking
     }
 }
 
-// What a record asks of the id table: an S whether its identity number stands under the open E, another record nothing.
+// What a record asks of the id table: an S whether its identity number stands under the open E,
+// another record nothing.
 pub fn id_asked(kind: Kind, line: &[u8]) -> Asking
     ensures { λ r. ⌜ r ≡ idAsked (saidBy kind (capitals (now (line .entry)))) ⌝ }
 {

@@ -1,8 +1,7 @@
--- By which rule each field is held against its context: one number for each row of the list of fields, in its order.
+-- Definitions: by which rule each field is held against its context: one number for each row of the list of fields, in its order.
 use Prim.Native.Nat.{ℕ}
 use mathlib.Core.List.{List, [], _∷_, _++_}
-use mathlib.Core.Path.{_≡_, refl}
-use lib.ListN.{take, drop, replicate}
+use lib.ListN.{replicate}
 use Rattle.edits.specs.RuleNumbers.{ruleNumber}
 use Rattle.edits.specs.declared.Rule.the-variants.{Nothing, YearInTime, QuarterInTime, YearOfA, PeriodOfA, FeinNew, FeinOfE, DateInQuarter, IdentityNew, CountOfS, WagesOfS, FileCountOfS, FileCountOfE, FileWagesOfS, FinalIfCurrent}
 
@@ -35,24 +34,3 @@ rulesOfF = quiet 1 ++ (ruleNumber FileCountOfS ∷ ruleNumber FileCountOfE ∷ q
 
 unfoldable pub rules : List ℕ
 rules = rulesOfA ++ rulesOfE ++ rulesOfS ++ rulesOfT ++ rulesOfF
-
--- Each record's part of the list.
-pub rules-of-A : take 17 (drop 0 rules) ≡ rulesOfA
-unfolding rules rulesOfA rulesOfE rulesOfS rulesOfT rulesOfF
-rules-of-A = refl
-
-pub rules-of-E : take 28 (drop 17 rules) ≡ rulesOfE
-unfolding rules rulesOfA rulesOfE rulesOfS rulesOfT rulesOfF
-rules-of-E = refl
-
-pub rules-of-S : take 13 (drop 45 rules) ≡ rulesOfS
-unfolding rules rulesOfA rulesOfE rulesOfS rulesOfT rulesOfF
-rules-of-S = refl
-
-pub rules-of-T : take 7 (drop 58 rules) ≡ rulesOfT
-unfolding rules rulesOfA rulesOfE rulesOfS rulesOfT rulesOfF
-rules-of-T = refl
-
-pub rules-of-F : take 7 (drop 65 rules) ≡ rulesOfF
-unfolding rules rulesOfA rulesOfE rulesOfS rulesOfT rulesOfF
-rules-of-F = refl

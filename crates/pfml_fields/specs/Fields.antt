@@ -1,4 +1,4 @@
--- The list of fields: "Columns and fields are the five tables of document 000".
+-- Definitions: the list of fields: "Columns and fields are the five tables of document 000".
 use Prim.Native.Nat.{ℕ}
 use mathlib.Core.List.{List, [], _∷_, _++_}
 use lib.ListN.{getD}
@@ -222,7 +222,7 @@ rowsOf kind = getD records kind []
 unfoldable pub fields : List (List ℕ)
 fields = fieldsOfA ++ fieldsOfE ++ fieldsOfS ++ fieldsOfT ++ fieldsOfF
 
--- Where the fields of each record begin in the list. Past the five records, behind it.
+-- Where the fields of each record begin in the list. Past the five records, after it.
 unfoldable pub starts : List ℕ
 starts = 0 ∷ 17 ∷ 45 ∷ 58 ∷ 65 ∷ []
 

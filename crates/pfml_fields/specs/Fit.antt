@@ -1,4 +1,4 @@
--- Each row of the list is fit: its columns lie in the record, its class has a number, and it is as wide as its class asks.
+-- Laws: each row of the list is fit: its columns lie in the record, its class has a number, and it is as wide as its class asks.
 use Prim.Native.Nat.{ℕ, _≤_, _<_}
 use mathlib.Core.Bool.{Bool, true, false, _&&_}
 use mathlib.Core.List.{List, [], _∷_}

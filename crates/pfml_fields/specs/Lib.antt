@@ -5,3 +5,4 @@ pub mod Fit
 pub mod Map
 pub mod MapLaws
 pub mod FieldRules
+pub mod FieldRuleLaws

@@ -1,4 +1,4 @@
--- The map of columns, and the field that a column lies in. Place n of the five records' 1,450 columns is column n % 290 + 1 of record n / 290.
+-- Definitions: the map of columns, and the field that a column lies in. Place n of the five records' 1,450 columns is column n % 290 + 1 of record n / 290.
 use Prim.Native.Nat.{ℕ, suc, _+_, _/_, _%_}
 use mathlib.Core.Bool.{Bool, _&&_}
 use mathlib.Core.List.{List, [], _∷_, _++_}

@@ -1,4 +1,4 @@
--- The map agrees with the list of fields, and each column lies in one field of its record.
+-- Laws: the map agrees with the list of fields, and each column lies in one field of its record.
 use Prim.Native.Nat.{ℕ, zero, suc, _+_, _*_, _-_, _/_, _%_, _≤_, _<_}
 use mathlib.Core.Bool.{true, false, and-false}
 use mathlib.Core.List.{List, [], _∷_}
@@ -69,7 +69,7 @@ module _ (column : ℕ) where
       (one-holds (lastIn row + 1) (suc k) rows i rest below low high)
 
 -- ---- the field of a column
--- There is none past the five records, before column 1 and behind column 290.
+-- There is none past the five records, before column 1 and after column 290.
 pub no-record : (kind column : ℕ) → 5 ≤ kind → fieldsAt kind column ≡ []
 unfolding fieldsAt holding
 no-record kind column h =

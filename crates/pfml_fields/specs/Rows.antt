@@ -1,4 +1,4 @@
--- Where the rows of each record stand in the list of all fields.
+-- Laws: where the rows of each record stand in the list of all fields.
 use Prim.Native.Nat.{ℕ, zero, suc, _+_, _-_, _≤_, _<_}
 use mathlib.Core.Bool.{Bool, _&&_}
 use mathlib.Core.List.{List, [], _∷_, _++_}
@@ -52,7 +52,7 @@ is-joined : fields ≡ joined records
 unfolding fields records fieldsOfA fieldsOfE fieldsOfS fieldsOfT fieldsOfF
 is-joined = refl
 
--- a record's first field stands behind the records before it, and the next record's behind its own fields
+-- a record's first field stands after the records before it, and the next record's after its own fields
 inPlace : ℕ → List (List ℕ) → Bool
 inPlace kind rows = eqb (firstField kind) (ahead records kind) && eqb (firstField (suc kind)) (firstField kind + length rows)
 
@@ -86,7 +86,7 @@ module _ (kind : ℕ) (h : kind < 5) where
     pub in-record : k - firstField kind < length (rowsOf kind)
     in-record = omega (arith, in-place .1)
 
-    -- and stands as far behind the record's first field as in the table.
+    -- and stands as far after the record's first field as in the table.
     pub row-of-record : getD fields k [] ≡ getD (rowsOf kind) (k - firstField kind) []
     row-of-record =
         let here : ahead records kind + (k - firstField kind) ≡ k = omega (arith, in-place .0) in

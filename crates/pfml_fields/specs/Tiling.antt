@@ -1,4 +1,4 @@
--- The rows of each record tile its columns, 1 to 290, in order: one computed test, and what it says of each row.
+-- Laws: the rows of each record tile its columns, 1 to 290, in order: one computed test, and what it says of each row.
 use Prim.Native.Nat.{ℕ, zero, suc, _+_, _-_, _≤_, _<_}
 use mathlib.Core.Bool.{Bool, true, _&&_}
 use mathlib.Core.List.{List, [], _∷_}
@@ -14,7 +14,7 @@ use Rattle.edits.specs.FieldRow.{firstIn, lastIn}
 use Rattle.pfml_fields.specs.Fields.{fieldsOfA, fieldsOfE, fieldsOfS, fieldsOfT, fieldsOfF, records, rowsOf, fields, firstField}
 use Rattle.pfml_fields.specs.Rows.{five-records, in-record, row-of-record}
 
--- The first row begins at column `from`, each next one right behind the one before, and the last ends at 290.
+-- The first row begins at column `from`, each next one right after the one before, and the last ends at 290.
 unfoldable pub tiles : ℕ → List (List ℕ) → Bool
 tiles from [] = eqb from 291
 tiles from (row ∷ rows) = eqb (firstIn row) from && leb from (lastIn row) && tiles (lastIn row + 1) rows
@@ -50,7 +50,7 @@ tiles-end from (row ∷ rows) t =
     let f = tiles-first from row rows t in
     omega (arith, tiles-end (lastIn row + 1) rows (f .2))
 
--- Each row begins at `from` or behind it, and ends at 290 or before.
+-- Each row begins at `from` or after it, and ends at 290 or before.
 pub row-within : (from : ℕ) (rows : List (List ℕ)) (i : ℕ) → tiles from rows ≡ true → i < length rows
     → (from ≤ firstIn (getD rows i [])) × (firstIn (getD rows i []) ≤ lastIn (getD rows i [])) × (lastIn (getD rows i []) ≤ 290)
 row-within from [] i t h = absurd (not-suc-le-zero h)
@@ -73,7 +73,7 @@ next-row from (row ∷ next ∷ rows) (suc i) t h =
     next-row (lastIn row + 1) (next ∷ rows) i (tiles-first from row (next ∷ rows) t .2) (le-of-suc-le-suc h)
 
 -- ---- the fields of a record
--- Each begins right behind the one before.
+-- Each begins right after the one before.
 pub next-begins : (kind k : ℕ) → kind < 5 → firstField kind ≤ k → suc k < firstField (suc kind)
     → firstIn (getD fields (suc k) []) ≡ lastIn (getD fields k []) + 1
 next-begins kind k h low high =

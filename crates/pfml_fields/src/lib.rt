@@ -1,5 +1,5 @@
-// The fields of the five records, class beside first and last column, and the map that gives the field of every column.
-// A record is named by its place in the order A, E, S, T, F, counted from 0.
+// The fields of the five records, class beside first and last column, and the map that gives the
+// field of every column. A record is named by its place in the order A, E, S, T, F, counted from 0.
 pub mod field_rules;
 mod map;
 
@@ -11,8 +11,8 @@ ghost use Rattle.pfml_fields.specs.Map.{fieldsAt, numbersOf};
 // How many columns a record has.
 pub const RECORD: u16 = 290;
 
-// One row a field: its class, its first and its last column. The fields that rules, meaning, writers
-// and the fast path name come first; each stands in the list below.
+// One row a field: its class, its first and its last column. The fields that rules, meaning,
+// writers and the fast path name come first; each stands in the list below.
 
 // A: the transmitter
 pub const YEAR_OF_A: [u16; 3] = [class::TAX_YEAR, 2, 5];

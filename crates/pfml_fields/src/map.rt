@@ -2,7 +2,8 @@
 ghost use mathlib.Core.Path.{_≡_};
 ghost use Rattle.pfml_fields.specs.Map.{columnMap};
 
-// The number of the field of every column, in hexadecimal: ten lines of 29 columns for each record, in the order A, E, S, T, F.
+// The number of the field of every column, in hexadecimal: ten lines of 29 columns for each record,
+// in the order A, E, S, T, F.
 const MAP: [u8; 1450] = *b"\
     \x00\x01\x01\x01\x01\x02\x02\x02\x02\x02\x02\x02\x02\x02\x03\x03\x03\x03\x04\x04\x05\x05\x05\x06\x06\x06\x06\x06\x06\
     \x06\x06\x06\x06\x06\x06\x06\x06\x06\x06\x06\x06\x06\x06\x06\x06\x06\x06\x06\x06\x06\x06\x06\x06\x06\x06\x06\x06\x06\

@@ -1,4 +1,4 @@
--- What may be relied on where a record is plain: it passes as an employee of the open employer, and its identity number and its size are small.
+-- Laws: what may be relied on where a record is plain: it passes as an employee of the open employer, and its identity number and its size are small.
 use Prim.Native.Nat.{ℕ, _+_, _≤_, _<_}
 use mathlib.Core.Bool.{Bool, true, false, not, _&&_, _||_, false≢true}
 use mathlib.Core.List.{List}

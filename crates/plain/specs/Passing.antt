@@ -1,4 +1,4 @@
--- A record whose columns lie between those of the two: what it reads as, field by field.
+-- Laws: a record whose columns lie between those of the two: what it reads as, field by field.
 use Prim.Native.Nat.{ℕ, zero, suc, _+_, _-_, _≤_, _<_}
 use mathlib.Core.Bool.{true}
 use mathlib.Core.List.{List}

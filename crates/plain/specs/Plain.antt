@@ -69,7 +69,7 @@ idIn s = digitsAt s identityOfS
 abbrev pub wagesIn : List ℕ → ℕ
 wagesIn s = digitsAt s wagesOfS
 
--- The bytes of the line end behind 290 columns.
+-- The bytes of the line end after 290 columns.
 abbrev pub endSize : List ℕ → ℕ
 endSize s = length (endOf (drop 290 s))
 

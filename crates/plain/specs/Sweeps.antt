@@ -1,4 +1,4 @@
--- The laws of the sweeps: a loop's steps, what stands in each column, what digits read as, and how large numbers are.
+-- Laws: the sweeps: a loop's steps, what stands in each column, what digits read as, and how large numbers are.
 use Prim.Native.Nat.{ℕ, zero, suc, _+_, _-_, _*_, _%_, _^_, _≤_, _<_}
 use mathlib.Core.Bool.{Bool, true, false, _&&_}
 use mathlib.Core.List.{List}

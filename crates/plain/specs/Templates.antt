@@ -1,4 +1,4 @@
--- The two records, column by column.
+-- Laws: the two records, column by column.
 use Prim.Native.Nat.{ℕ, _+_, _-_, _≤_, _<_}
 use mathlib.Core.Bool.{Bool, true}
 use mathlib.Core.List.{List}

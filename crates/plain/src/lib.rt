@@ -1,5 +1,5 @@
-// The fast path, for one line: an S record of PFML that one sweep over its columns finds good, without
-// an exit on the way. What it does not find good is only looked at more closely.
+// The fast path, for one line: an S record of PFML that one sweep over its columns finds good,
+// without an exit on the way. What it does not find good is only looked at more closely.
 use calendar::Quarter;
 use chars::columns;
 use chars::columns::Allowed;
@@ -18,7 +18,8 @@ ghost use Prim.Native.Nat.{_-_, _≤_};
 ghost use lib.ListN.{length, drop};
 ghost use Rattle.plain.specs.Plain.{ofDigit, ofEmployer, lowest, highest, fits, within, digitsFrom, sight};
 
-// What is seen of a plain S record: the bytes that it and its end take, its identity number and its wages. No bytes: look closer.
+// What is seen of a plain S record: the bytes that it and its end take, its identity number and its
+// wages. No bytes: look closer.
 pub struct Sighted {
     pub taken: usize,
     pub id: u64,
@@ -110,8 +111,9 @@ pub fn fits(fein: u64, filed: Quarter) -> bool
     false
 }
 
-// Whether each column lies between those of the two records. Every one of them is looked at, so that a compiler can compare several at once; the last two
-// stand apart, so that it has none left over.
+// Whether each column lies between those of the two records. Every one of them is looked at, so
+// that a compiler can compare several at once; the last two stand apart, so that it has none left
+// over.
 fn within(line: &[u8], low: &[u8], high: &[u8]) -> bool
     requires { ⌜ (290 ≤ length (now line)) × (290 ≤ length (now low)) × (290 ≤ length (now high)) ⌝ }
     ensures { λ r. ⌜ r ≡ within (now (low .entry)) (now (high .entry)) (now (line .entry)) 290 ⌝ }

@@ -1,5 +1,6 @@
-// What every acknowledging program does: it reads from standard input, makes the turns of the library, and writes the frames to standard output. No rule
-// of the paper stands here. Its memory is fixed, whatever the input's size.
+// What every acknowledging program does: it reads from standard input, makes the turns of the
+// library, and writes the frames to standard output. No rule of the paper stands here. Its memory
+// is fixed, whatever the input's size.
 use ack::Progress;
 use ack::Turned;
 use edits::format::Format;
@@ -11,17 +12,20 @@ ghost use lib.ListN.{length};
 
 // What stands on standard input, and what is told of it.
 //
-// One: a header and a wage file. Its acknowledgement is told, and what goes wrong on standard error.
+// One: a header and a wage file. Its acknowledgement is told, and what goes wrong on standard
+// error.
 //
-// Cases: many such inputs. Each stands behind eight digits, how many bytes it has; a blank; five digits, how many bytes a read brings at most; LF. Its
-// acknowledgement is told, and a line with a full stop. The tables keep for the next case what one left in them. A case that is cut short ends the program.
+// Cases: many such inputs. Each stands after eight digits, how many bytes it has; a blank; five
+// digits, how many bytes a read brings at most; LF. Its acknowledgement is told, and a line with a
+// full stop. The tables keep for the next case what one left in them. A case that is cut short ends
+// the program.
 pub enum Telling {
     One,
     Cases,
 }
 
-// What one read left in the buffer: how many bytes are held there, how many of the case are still to come, whether the input has ended, and whether it
-// could not be read or is cut short.
+// What one read left in the buffer: how many bytes are held there, how many of the case are still
+// to come, whether the input has ended, and whether it could not be read or is cut short.
 struct Held {
     bytes: usize,
     left: u64,
@@ -29,9 +33,10 @@ struct Held {
     failed: bool,
 }
 
-// Where the program is between two turns: how many bytes stand before the next read, how many turns are left, how many bytes of the case are still to come,
-// how many a read brings at most, and how the input stands. No contract can say that an input ends, so the turns are counted down; none is left when the
-// program is done.
+// Where the program is between two turns: how many bytes stand before the next read, how many turns
+// are left, how many bytes of the case are still to come, how many a read brings at most, and how
+// the input stands. No contract can say that an input ends, so the turns are counted down; none is
+// left when the program is done.
 struct Between {
     have: usize,
     turns: u64,
@@ -53,8 +58,9 @@ fn unread() -> Held
     }
 }
 
-// Reads behind the bytes that are held. Without room a read would bring nothing and look like the end of the input, so that counts as failed; a turn
-// leaves less than the longest line over (`left-short`), so it does not happen.
+// Reads after the bytes that are held. Without room a read would bring nothing and look like the
+// end of the input, so that counts as failed; a turn leaves less than the longest line over
+// (`left-short`), so it does not happen.
 fn read_one(buf: &mut [u8], have: usize) -> Held
     ensures { λ r. ⌜ r .bytes ≤ length (now (buf .exit)) ⌝ }
 {
@@ -73,7 +79,8 @@ fn read_one(buf: &mut [u8], have: usize) -> Held
     }
 }
 
-// Reads up to `want` bytes behind those held, as far as there is room, and tells how many are held then.
+// Reads up to `want` bytes after those held, as far as there is room, and tells how many are held
+// then.
 fn read_piece(buf: &mut [u8], have: usize, want: u64) -> usize
     requires { ⌜ have ≤ length (now buf) ⌝ }
     ensures { λ r. ⌜ (have ≤ r) × (r ≤ have + want) × (r ≤ length (now (buf .exit))) ⌝ }
@@ -83,7 +90,7 @@ fn read_piece(buf: &mut [u8], have: usize, want: u64) -> usize
     have + io::read_full(libc::STDIN_FILENO, &mut buf[have..end])
 }
 
-// Reads the next bytes of the case; behind the last it has ended.
+// Reads the next bytes of the case; after the last it has ended.
 fn read_case(buf: &mut [u8], at: Between) -> Held
     ensures { λ r. ⌜ r .bytes ≤ length (now (buf .exit)) ⌝ }
 {
@@ -138,7 +145,8 @@ fn write_frames(frames: &[u8]) {
     }
 }
 
-// Of a finished walk the frames are always written (`program-means`); any other answer is told, and no frame comes.
+// Of a finished walk the frames are always written (`program-means`); any other answer is told, and
+// no frame comes.
 fn tell_one(framed: Framed, out: &[u8]) {
     match framed {
         Framed::Written(n) => write_frames(front(out, n)),
@@ -234,7 +242,7 @@ fn stopped(telling: Telling) -> Between
     }
 }
 
-// Whether the answer is told now. What is left of a case behind a refusal is read over.
+// Whether the answer is told now. What is left of a case after a refusal is read over.
 fn is_over(telling: Telling, ended: bool, progress: Progress) -> bool {
     match telling {
         Telling::One => is_finished(progress),
@@ -242,7 +250,7 @@ fn is_over(telling: Telling, ended: bool, progress: Progress) -> bool {
     }
 }
 
-// Tells the answer; behind a case comes the next one.
+// Tells the answer; after a case comes the next one.
 fn told(telling: Telling, framed: Framed, out: &[u8], turns: u64) -> Between
     ensures { λ r. ⌜ r .turns ≤ turns ⌝ }
 {
@@ -258,7 +266,8 @@ fn told(telling: Telling, framed: Framed, out: &[u8], turns: u64) -> Between
     }
 }
 
-// What comes after a turn: the end, where a read failed; the answer, where the input is over; or the bytes kept for another turn.
+// What comes after a turn: the end, where a read failed; the answer, where the input is over; or
+// the bytes kept for another turn.
 fn after(
     telling: Telling,
     last: Between,
@@ -311,8 +320,9 @@ fn all_turns(
     }
 }
 
-// Acknowledges what standard input holds, each input in this format. That it ends is all that can be promised: no contract says what is read and written.
-// The frames take 35 bytes for each of 1,024 employers, and 35 more.
+// Acknowledges what standard input holds, each input in this format. That it ends is all that can
+// be promised: no contract says what is read and written. The frames take 35 bytes for each of
+// 1,024 employers, and 35 more.
 pub fn run(format: Format, telling: Telling) {
     let mut buf = [0u8; 524288];
     let mut ids = [0u32; 8192];

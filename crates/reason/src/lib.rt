@@ -2,8 +2,9 @@
 ghost use mathlib.Core.Path.{_≡_};
 ghost use Rattle.reason.specs.ReasonNumbers.{numberOf, reasonOf, isListed};
 
-// One reason for each number of the paper's table, for 64 and 65 of document 02, and for 73, which the formats bring. The number of a reason is
-// `number_of`, and `reason_of` the way back: nothing else goes by cases on the reasons.
+// One reason for each number of the paper's table, for 64 and 65 of document 02, and for 73, which
+// the formats bring. The number of a reason is `number_of`, and `reason_of` the way back: nothing
+// else goes by cases on the reasons.
 pub enum Reason {
     // 1: A line's length is not the record's.
     LineLength,

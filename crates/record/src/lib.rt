@@ -1,4 +1,5 @@
-// The formats: the one place where code asks which format it is. Of a number that names none every line is one of no record.
+// The formats: the one place where code asks which format it is. Of a number that names none every
+// line is one of no record.
 use calendar::Quarter;
 use edits::Context;
 use edits::Open;
@@ -55,7 +56,8 @@ pub fn most_cents(format: Format) -> u64
     }
 }
 
-// 72, the clauses of the format's own: by the length of the id table, the ids in use, whether an E is open, and the numbers of the file and of the open E.
+// 72, the clauses of the format's own: by the length of the id table, the ids in use, whether an E
+// is open, and the numbers of the file and of the open E.
 pub fn unfit_more(
     format: Format,
     ids: usize,

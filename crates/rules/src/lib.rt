@@ -1,4 +1,5 @@
-// The rules of fields that read as numbers. A value that fails its rule is refused at the field's first column.
+// The rules of fields that read as numbers. A value that fails its rule is refused at the field's
+// first column.
 use number::Number;
 use reason::Reason;
 ghost use mathlib.Core.Path.{_≡_};
@@ -6,6 +7,7 @@ ghost use Rattle.chars.specs.Characters.{capitals};
 ghost use Rattle.number.specs.Numbers.{readingOf};
 ghost use Rattle.rules.specs.Rules.{yearIn, periodIn, flagIn, beginsWith69, isNineZeros, feinIn, isFromTo, areIssued, fourthAndFifth, mayBeFiled, identityIn};
 
+// A year: 30, then 38 where it is too early.
 pub fn read_year(line: &[u8], first: u16, last: u16) -> Number
     ensures { λ r. ⌜ readingOf r ≡ yearIn (capitals (now (line .entry))) first last ⌝ }
 {
@@ -19,6 +21,7 @@ pub fn read_year(line: &[u8], first: u16, last: u16) -> Number
     Number::Refused(first, Reason::YearTooEarly)
 }
 
+// A period: 40 where it is no month that ends a quarter.
 pub fn read_period(line: &[u8], first: u16, last: u16) -> Number
     ensures { λ r. ⌜ readingOf r ≡ periodIn (capitals (now (line .entry))) first last ⌝ }
 {
@@ -32,6 +35,7 @@ pub fn read_period(line: &[u8], first: u16, last: u16) -> Number
     Number::Refused(first, Reason::BadPeriod)
 }
 
+// A flag: 47 where it is neither 0 nor 1.
 pub fn read_flag(line: &[u8], column: u16) -> Number
     ensures { λ r. ⌜ readingOf r ≡ flagIn (capitals (now (line .entry))) column ⌝ }
 {
@@ -57,6 +61,7 @@ fn is_nine_zeros(fein: u64) -> bool
     fein == 0
 }
 
+// An employer's FEIN: 30, then 44 where it begins with 69, then 64 where it is nine zeros.
 pub fn read_fein(line: &[u8], first: u16, last: u16) -> Number
     ensures { λ r. ⌜ readingOf r ≡ feinIn (capitals (now (line .entry))) first last ⌝ }
 {
@@ -114,6 +119,7 @@ pub fn may_be_filed(id: u64) -> bool
     id / 1000000 != 666
 }
 
+// An identity number: 30, then 52 where it may not be filed.
 pub fn read_identity(line: &[u8], first: u16, last: u16) -> Number
     ensures { λ r. ⌜ readingOf r ≡ identityIn (capitals (now (line .entry))) first last ⌝ }
 {

@@ -1,4 +1,5 @@
-// What the machine knows of a line, in every format: what its record says and asks, and the verdict on it.
+// What the machine knows of a line, in every format: what its record says and asks, and the verdict
+// on it.
 use calendar::Quarter;
 use edits::Phase;
 use reason::Edit;
@@ -12,7 +13,8 @@ ghost use Rattle.shape.specs.Shape.{asksNothing};
 // The most S records of a file.
 pub const MOST_EMPLOYEES: u64 = 100000;
 
-// An E record: its FEIN, whether S records follow, whether it amends a return, whether it closes the business, and the cease date.
+// An E record: its FEIN, whether S records follow, whether it amends a return, whether it closes
+// the business, and the cease date.
 pub struct EmployerOn {
     pub fein: u64,
     pub follow: bool,
@@ -21,7 +23,8 @@ pub struct EmployerOn {
     pub date: u64,
 }
 
-// An S record: the identity number, the wages in cents, and a second amount in cents, 0 in a format that has none.
+// An S record: the identity number, the wages in cents, and a second amount in cents, 0 in a format
+// that has none.
 pub struct EmployeeOn {
     pub id: u64,
     pub wages: u64,
@@ -44,7 +47,8 @@ pub struct Asking {
     pub number: u64,
 }
 
-// A refusal, with its column; or the bytes that the line and its end take, and what its record says.
+// A refusal, with its column; or the bytes that the line and its end take, and what its record
+// says.
 pub enum Verdict {
     Refused(u16, Reason),
     Passed(usize, Said),

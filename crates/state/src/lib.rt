@@ -13,7 +13,8 @@ ghost use Rattle.reason.specs.ReasonNumbers.{noticeOf};
 ghost use Rattle.shape.specs.After.{noQuarter, noneOpen, noTotals};
 ghost use Rattle.state.specs.Walks.{phaseOf, noOpening, standingOf, walkOf, openedWalk, refusedWalk};
 
-// Where a walk stands: among the records of the file; at its accepted end; or refused, with the place and the reason.
+// Where a walk stands: among the records of the file; at its accepted end; or refused, with the
+// place and the reason.
 pub enum Stage {
     Reading(Phase),
     Accepted,
@@ -44,6 +45,7 @@ pub fn phase_of(stage: Stage) -> Phase
     }
 }
 
+// The quarter of A before A is read: zeros.
 pub fn no_quarter() -> Quarter
     ensures { λ r. ⌜ r ≡ noQuarter ⌝ }
 {
@@ -61,6 +63,7 @@ pub fn no_opening() -> Opening
     }
 }
 
+// The numbers of the open E when none is open: zeros.
 pub fn none_open() -> Open
     ensures { λ r. ⌜ r ≡ noneOpen ⌝ }
 {

@@ -105,7 +105,8 @@ fn words_of(st: State) -> [u64; WORDS]
     ]
 }
 
-// The words of a state at the front of those that are lent, which tell that state again; where these are too few, nothing is written.
+// The words of a state at the front of those that are lent, which tell that state again; where
+// these are too few, nothing is written.
 pub fn put_words(st: State, words: &mut [u64])
     ensures { λ _. ⌜ now (words .exit) ≡ putWords (walkOf st) (now (words .entry)) ⌝ }
     ensures { λ _. ⌜ (wordCount ≤ length (now (words .entry)) → walkIn (now (words .exit)) ≡ walkOf st) ⌝ }

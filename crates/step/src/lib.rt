@@ -1,4 +1,5 @@
-// What opening, one line and the end answer and write, decided over values before any table is touched.
+// What opening, one line and the end answer and write, decided over values before any table is
+// touched.
 pub mod line;
 mod reading;
 
@@ -34,7 +35,8 @@ pub fn taken_in(reply: Reply) -> usize
     }
 }
 
-// What a call hands back: the reply, and the state for the next call. The state stands last, so that no place behind it is reckoned from its size.
+// What a call hands back: the reply, and the state for the next call. The state stands last, so
+// that no place after it is reckoned from its size.
 pub struct Answer {
     pub reply: Reply,
     pub state: State,
@@ -98,7 +100,7 @@ fn again(st: State, refusal: Refusal) -> Move
     }
 }
 
-// A refusal at the line behind those read: the walk ends, both tables are zeroed.
+// A refusal at the line after those read: the walk ends, both tables are zeroed.
 fn refuse(st: State, column: u16, reason: Reason) -> Move
     requires { ⌜ st .lines < 4294967295 ⌝ }
     ensures { λ r. ⌜ movedBy r ≡ refuses (walkOf st) column (numberOf reason) ⌝ }
@@ -171,7 +173,7 @@ pub fn end_move(st: State, ids: usize, list: usize) -> Move
     }
 }
 
-// Why a walk may not be opened so: 70 for the quarter, behind it 73 for the format.
+// Why a walk may not be opened so: 70 for the quarter, after it 73 for the format.
 fn opening_reason(held: Opening) -> Reason
     ensures { λ r. ⌜ numberOf r ≡ openingNumber held ⌝ }
 {

@@ -10,7 +10,8 @@ ghost use Rattle.state.specs.Walks.{walkOf};
 ghost use Rattle.step.specs.Moves.{movedBy, lineSeen};
 ghost use Rattle.step.specs.Questions.{idAskedBy, lookedAt, idFound};
 
-// How many entries are looked at, of a table of which so many are in use: all of these, or none where nothing is asked.
+// How many entries are looked at, of a table of which so many are in use: all of these, or none
+// where nothing is asked.
 pub fn looked_at(asking: Asking, used: usize) -> usize
     ensures { λ r. ⌜ r ≡ lookedAt asking used ⌝ }
 {
@@ -20,7 +21,8 @@ pub fn looked_at(asking: Asking, used: usize) -> usize
     0
 }
 
-// One line: `repeated` says whether its FEIN is among the entries asked; the list has so many entries.
+// One line: `repeated` says whether its FEIN is among the entries asked; the list has so many
+// entries.
 pub fn line_move(st: State, bytes: &[u8], ids: &[u32], list: usize, repeated: bool) -> Move
     ensures { λ r. ⌜ movedBy r ≡ lineSeen (record { ids = length (now (ids .entry)); list = list }) (record { fein = repeated; id = idFound (idAskedBy (st .held .format) (now (bytes .entry))) (st .used) (now (ids .entry)) }) (walkOf st) (firstLine (now (bytes .entry))) ⌝ }
 {

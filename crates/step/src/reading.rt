@@ -1,4 +1,5 @@
-// A line is read: its verdict, and what a record that passes its edits leaves in the state and writes.
+// A line is read: its verdict, and what a record that passes its edits leaves in the state and
+// writes.
 use crate::Answer;
 use crate::Change;
 use crate::Move;
@@ -178,7 +179,7 @@ fn no_record(st: State, taken: usize) -> Move
     moves(next, taken, Change::Nothing)
 }
 
-// The record says what it says: the walk goes on behind its line.
+// The record says what it says: the walk goes on after its line.
 fn go_on(st: State, taken: usize, said: Said) -> Move
     requires { ⌜ Ready (walkOf st) said ⌝ }
     ensures { λ r. ⌜ movedBy r ≡ goesOn (walkOf st) taken said ⌝ }
@@ -223,7 +224,8 @@ fn read_line(st: State, phase: Phase, bytes: &[u8], seen: Seen, ids: usize, list
     }
 }
 
-// One line, when it is known whether its FEIN or its identity number was seen before; the call is lent tables of these lengths.
+// One line, when it is known whether its FEIN or its identity number was seen before; the call is
+// lent tables of these lengths.
 pub fn line_seen(st: State, bytes: &[u8], seen: Seen, ids: usize, list: usize) -> Move
     ensures { λ r. ⌜ movedBy r ≡ lineSeen (record { ids = ids; list = list }) seen (walkOf st) (firstLine (now (bytes .entry))) ⌝ }
 {

@@ -25,7 +25,8 @@ pub fn put(ids: &mut [u32], at: usize, id: u32)
     }
 }
 
-// Whether a number is among the first n. Every one of them is looked at, so that a compiler can compare several at once.
+// Whether a number is among the first n. Every one of them is looked at, so that a compiler can
+// compare several at once.
 pub fn has(ids: &[u32], n: usize, id: u32) -> bool
     ensures { λ r. ⌜ r ≡ isAmong id (take n (now (ids .entry))) ⌝ }
 {

@@ -1,12 +1,13 @@
-// The two tables that a caller lends: identity numbers, and the entries of employers. None of the functions asks anything of their length.
+// The two tables that a caller lends: identity numbers, and the entries of employers. None of the
+// functions asks anything of their length.
 pub mod ids;
 pub mod list;
 
 ghost use mathlib.Core.Path.{_≡_};
 ghost use Prim.Native.Nat.{min};
 
-// An employer's entry: its FEIN, the number of S records and the sum of their wages in cents. It lies in memory as C lays it out, since callers in
-// other languages lend such a list.
+// An employer's entry: its FEIN, the number of S records and the sum of their wages in cents. It
+// lies in memory as C lays it out, since callers in other languages lend such a list.
 #[repr(C)]
 pub struct Employer {
     pub fein: u64,

@@ -67,7 +67,8 @@ pub fn zero_first(list: &mut [Employer], n: usize)
     }
 }
 
-// Whether a FEIN is among those of the first n entries. Every one of them is looked at, so that no turn branches on what was found.
+// Whether a FEIN is among those of the first n entries. Every one of them is looked at, so that no
+// turn branches on what was found.
 pub fn has_fein(list: &[Employer], n: usize, fein: u64) -> bool
     ensures { λ r. ⌜ r ≡ isAmong fein (feinsOf (take n (now (list .entry)))) ⌝ }
 {

@@ -1,7 +1,8 @@
 // Runs stored cases through the tests of fields, lines, codes and dates, and prints each answer.
 //
-// A case is a line of the input: two digits name the test, three digits and three digits are its numbers a and b, and the rest is its text. Its answer is
-// a line of three numbers: the paper's number (0 where nothing is broken), the column, and the value.
+// A case is a line of the input: two digits name the test, three digits and three digits are its
+// numbers a and b, and the rest is its text. Its answer is a line of three numbers: the paper's
+// number (0 where nothing is broken), the column, and the value.
 use calendar::Quarter;
 use calendar::Timing;
 use field::class;
@@ -203,7 +204,7 @@ fn more(test: u16, s: &[u8], a: u16, b: u16) {
 }
 
 // ---- all cases
-// One case after the other; what stands behind the last line end is no case.
+// One case after the other; what stands after the last line end is no case.
 fn cases(input: &[u8]) {
     let mut at = 0;
     while at < input.len() {

@@ -1,5 +1,6 @@
-// Runs many inputs of the acknowledgement program through the same turns, each in reads of a stated size, and prints each acknowledgement and a line with a
-// full stop: `Telling::Cases` of the crate `program`.
+// Runs many inputs of the acknowledgement program through the same turns, each in reads of a stated
+// size, and prints each acknowledgement and a line with a full stop: `Telling::Cases` of the crate
+// `program`.
 use edits::format::Format;
 use program::Telling;
 

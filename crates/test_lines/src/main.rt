@@ -1,7 +1,9 @@
-// Runs stored lines through the edits of a record, each in a context of its own, and prints each verdict.
+// Runs stored lines through the edits of a record, each in a context of its own, and prints each
+// verdict.
 //
-// A case ends with #. Its first 77 characters are the context, digits in fixed columns (`context` below reads them), then a stroke; behind it stand
-// the bytes that the call is lent. The answer is a line of two numbers: the paper's number and the column, or 0 and the bytes taken.
+// A case ends with #. Its first 77 characters are the context, digits in fixed columns (`context`
+// below reads them), then a stroke; after it stand the bytes that the call is lent. The answer is a
+// line of two numbers: the paper's number and the column, or 0 and the bytes taken.
 use calendar::Quarter;
 use edits::Context;
 use edits::Open;

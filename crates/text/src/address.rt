@@ -15,6 +15,7 @@ pub fn region_in(line: &[u8], first: u16) -> Region
     codes::region_of(chars::char_at(line, at), chars::char_at(line, at + 1))
 }
 
+// 35, where the two letters are neither a state nor a province.
 pub fn state_edit(region: Region, first: u16) -> Edit
     ensures { λ r. ⌜ findingOf r ≡ stateTest region first ⌝ }
 {
@@ -25,6 +26,8 @@ pub fn state_edit(region: Region, first: u16) -> Edit
     }
 }
 
+// 36, unless it reads as five digits with a state, or letter digit letter blank digit with a
+// province.
 pub fn zip_edit(region: Region, line: &[u8], first: u16) -> Edit
     ensures { λ r. ⌜ findingOf r ≡ zipTest region (capitals (now (line .entry))) first ⌝ }
 {
@@ -35,6 +38,8 @@ pub fn zip_edit(region: Region, line: &[u8], first: u16) -> Edit
     }
 }
 
+// 37, unless it is blank or a hyphen and four digits with a state, or letter, digit and three blanks
+// with a province.
 pub fn extension_edit(region: Region, line: &[u8], first: u16) -> Edit
     ensures { λ r. ⌜ findingOf r ≡ extensionTest region (capitals (now (line .entry))) first ⌝ }
 {

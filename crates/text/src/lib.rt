@@ -15,6 +15,7 @@ ghost use Rattle.chars.specs.Characters.{capitals};
 ghost use Rattle.chars.specs.Columns.{unless};
 ghost use Rattle.text.specs.Text.{allBlank, isIndented, textTest, requiredText, optionalText, isAsked, readsAs, hasPattern, entityTest};
 
+// Whether every column of a field is blank.
 pub fn all_blank(line: &[u8], first: u16, last: u16) -> bool
     ensures { λ r. ⌜ r ≡ allBlank (capitals (now (line .entry))) first last ⌝ }
 {
@@ -25,7 +26,8 @@ pub fn all_blank(line: &[u8], first: u16, last: u16) -> bool
     }
 }
 
-// Whether there is text from the first column on: then the field is neither all blank nor indented, and no other column need be looked at.
+// Whether there is text from the first column on: then the field is neither all blank nor indented,
+// and no other column need be looked at.
 fn is_begun(line: &[u8], first: u16, last: u16) -> bool
     ensures { λ r. ⌜ r ≡ not (allBlank (capitals (now (line .entry))) first last || isIndented (capitals (now (line .entry))) first) ⌝ }
 {
@@ -49,12 +51,14 @@ fn text(line: &[u8], first: u16, last: u16, missing: Edit) -> Edit
     Edit::Broken(first, Reason::TextIndented)
 }
 
+// A text that must be there: 32 where it is all blank, 33 where it begins with a blank.
 pub fn required(line: &[u8], first: u16, last: u16) -> Edit
     ensures { λ r. ⌜ findingOf r ≡ requiredText (capitals (now (line .entry))) first last ⌝ }
 {
     text(line, first, last, Edit::Broken(first, Reason::TextMissing))
 }
 
+// A text that may be left out: 33 where it begins with a blank and is not all blank.
 pub fn optional(line: &[u8], first: u16, last: u16) -> Edit
     ensures { λ r. ⌜ findingOf r ≡ optionalText (capitals (now (line .entry))) first last ⌝ }
 {

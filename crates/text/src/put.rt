@@ -15,7 +15,8 @@ pub fn blank_line(line: &mut [u8])
     }
 }
 
-// The text from a column on; column 0 is read as column 1. What would stand behind the line's end is left out.
+// The text from a column on; column 0 is read as column 1. What would stand after the line's end is
+// left out.
 pub fn put_text(line: &mut [u8], first: u16, text: &[u8])
     ensures { λ _. ⌜ now (line .exit) ≡ putText (now (line .entry)) first (now (text .entry)) ⌝ }
 {

@@ -15,7 +15,8 @@ use Rattle.write.specs.Records.{recordOf}
 use Rattle.build.specs.Account.{account-read-back, no-account-reads, account-row, account-in-E, account-form}
 use Rattle.build.specs.Building.{partOf}
 use Rattle.build.specs.FillLaws.{padded-is}
-use Rattle.build.specs.Theorems.{known-letters, Built, built-slice, field-read-back, number-read-back}
+use Rattle.build.specs.Theorems.{known-letters, built-slice, field-read-back, number-read-back}
+use Rattle.build.specs.BuiltRecords.{Built}
 use Rattle.build.specs.Values.{Value, amount, none, words, noAccount, Filled, fillRecord, formIn, trimmed, textIn, readBy, asRead}
 use Rattle.build.specs.declared.form.Form.{Form}
 use Rattle.build.specs.declared.form.Form.the-variants.{Amount, Account, Words}

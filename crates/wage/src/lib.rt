@@ -1,5 +1,6 @@
-// The library for integrators: the calls of the walk, the writing of T and F, the building of A, E and S and the reading of their fields, and the
-// frames, over numbers and slices. C sees a slice as its pointer and its length. The caller keeps the state of a walk as words.
+// The library for integrators: the calls of the walk, the writing of T and F, the building of A, E
+// and S and the reading of their fields, and the frames, over numbers and slices. C sees a slice as
+// its pointer and its length. The caller keeps the state of a walk as words.
 use build::read;
 use edits::Opening;
 use edits::format;
@@ -21,7 +22,8 @@ ghost use Rattle.write.specs.Writing.{noticeIn as noticeOn};
 ghost use Rattle.frames.specs.Frames.{framedNumbers};
 ghost use Rattle.wage.specs.Exports.{numbers, Told, Opened, isStill, Continued, abiVersion, openingOf, openThrough, lineThrough, endThrough, wholeThrough, writtenNumbers, filledT, filledF, filledBuilt, fieldFirst, fieldReading, fieldLength, readNumbers, readField, framingNumbers, filledFrames};
 
-// What a call answers: the paper's number, line and column, and a count of bytes, or the number that a field holds.
+// What a call answers: the paper's number, line and column, and a count of bytes, or the number
+// that a field holds.
 struct Numbers {
     number: u64,
     line: u64,
@@ -39,7 +41,8 @@ fn put_at(words: &mut [u64], at: usize, v: u64)
     }
 }
 
-// The four numbers go into the answer's words, as many of them as fit, and the first is the call's own answer.
+// The four numbers go into the answer's words, as many of them as fit, and the first is the call's
+// own answer.
 fn tell_numbers(n: Numbers, answer: &mut [u64]) -> u64
     ensures { λ r. ⌜ Told n r (now (answer .entry)) (now (answer .exit)) ⌝ }
 {
@@ -127,8 +130,8 @@ fn framed_numbers(framed: Framed) -> Numbers
     }
 }
 
-// ---- the calls of the walk
-// After a call that opens a walk its state and its answer go into the words that the caller lent for them.
+// ---- the calls of the walk After a call that opens a walk its state and its answer go into the
+// words that the caller lent for them.
 fn tell_opened(a: Answer, state: &mut [u64], answer: &mut [u64]) -> u64
     ensures { λ r. ⌜ ((t : Tables) → Opened (outOf a t) (now (state .entry)) (now (answer .entry)) (record { number = r; state = now (state .exit); answer = now (answer .exit); left = t })) ⌝ }
 {
@@ -151,8 +154,8 @@ fn is_still(number: u64) -> bool
     }
 }
 
-// After a line or end call, likewise. But where nothing is changed no word of the state is written: to read words and put them back can change what no
-// walk needs in them.
+// After a line or end call, likewise. But where nothing is changed no word of the state is written:
+// to read words and put them back can change what no walk needs in them.
 fn tell(a: Answer, state: &mut [u64], answer: &mut [u64]) -> u64
     ensures { λ r. ⌜ ((t : Tables) → Continued (outOf a t) (now (state .entry)) (now (answer .entry)) (record { number = r; state = now (state .exit); answer = now (answer .exit); left = t })) ⌝ }
 {

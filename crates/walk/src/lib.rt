@@ -22,8 +22,8 @@ ghost use Rattle.walk.specs.Writes.{noWrites, writesOf};
 ghost use Rattle.walk.specs.Calls.{wholeFile};
 ghost use Rattle.walk.specs.LineAndRun.{linesStep, nextPlace};
 
-// What is written into the employer list: the first so many entries zeroed, a FEIN at a place, a count and cents at a place. A place past the end
-// is none.
+// What is written into the employer list: the first so many entries zeroed, a FEIN at a place, a
+// count and cents at a place. A place past the end is none.
 struct Writes {
     zeroed: usize,
     opened_at: usize,
@@ -110,7 +110,8 @@ fn change_list(list: &mut [Employer], change: Change)
     list::put(list, w.closed_at, list::closed_entry(old, w.count, w.cents));
 }
 
-// Opens a walk. A quarter that the paper does not allow is 70, a format that is none 73, and nothing is touched.
+// Opens a walk. A quarter that the paper does not allow is 70, a format that is none 73, and
+// nothing is touched.
 pub fn open(held: Opening, ids: &mut [u32], list: &mut [Employer]) -> Answer
     ensures { λ r. ⌜ outOf r (tablesOf (now (ids .exit)) (now (list .exit))) ≡ openStep held (tablesOf (now (ids .entry)) (now (list .entry))) ⌝ }
 {
@@ -120,7 +121,8 @@ pub fn open(held: Opening, ids: &mut [u32], list: &mut [Employer]) -> Answer
     m.answer
 }
 
-// What a line asks of the employer list: whether its FEIN is among those of the first so many entries.
+// What a line asks of the employer list: whether its FEIN is among those of the first so many
+// entries.
 struct Asked {
     entries: usize,
     fein: u64,
@@ -179,8 +181,8 @@ pub fn line(st: State, bytes: &[u8], ids: &mut [u32], list: &mut [Employer]) -> 
     line_at(st, bytes, 0, ids, list)
 }
 
-// One line, and the plain S records right behind it, which one sweep each finds good: what a call for each of them would leave. The bytes taken are
-// those of all of them.
+// One line, and the plain S records right after it, which one sweep each finds good: what a call
+// for each of them would leave. The bytes taken are those of all of them.
 pub fn lines_at(
     st: State,
     bytes: &[u8],
@@ -204,7 +206,8 @@ pub fn end(st: State, ids: &mut [u32], list: &mut [Employer]) -> Answer
     m.answer
 }
 
-// Where the next line begins: behind the bytes taken, or at the end after a refusal, since no other line is then taken.
+// Where the next line begins: after the bytes taken, or at the end after a refusal, since no other
+// line is then taken.
 fn next_place(at: usize, reply: Reply, end: usize) -> usize
     requires { ⌜ at + takenIn reply ≤ end ⌝ }
     ensures { λ r. ⌜ r ≡ nextPlace at (takenIn reply) end ⌝ }

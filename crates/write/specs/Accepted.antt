@@ -1,4 +1,4 @@
--- A line call that is answered by "accepted", and the record on the line: what the one tells of the other.
+-- Laws: a line call that is answered by "accepted", and the record on the line: what the one tells of the other.
 use Prim.Native.Nat.{ℕ, _+_}
 use mathlib.Core.Bool.{true, false, false≢true}
 use mathlib.Core.Path.{_≡_, refl, sym, ap, _∙_}

@@ -1,5 +1,6 @@
 pub mod Records
 pub mod Writing
+pub mod NextAccepted
 pub mod WritingLaws
 pub mod PartLaws
 pub mod TotalFields

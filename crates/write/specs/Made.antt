@@ -1,4 +1,4 @@
--- A record of parts, with an end and any bytes behind it, as the line that a call reads; and a walk of PFML accepts it where no edit of its fields is broken.
+-- Laws: a record of parts, with an end and any bytes after it, as the line that a call reads; a walk of PFML accepts it where no edit of its fields is broken.
 use Prim.Native.Nat.{ℕ, _<_}
 use mathlib.Core.Bool.{true, false}
 use mathlib.Core.List.{List, _++_}

@@ -1,4 +1,4 @@
--- The paper's numbers lose nothing of an answer: no second answer, and no second content of the slice, fits a promise.
+-- Laws: the paper's numbers lose nothing of an answer: no second answer, and no second content of the slice, fits a promise.
 use Prim.Native.Nat.{ℕ}
 use mathlib.Core.List.{List}
 use mathlib.Core.Path.{_≡_, refl, sym, ap}

@@ -1,4 +1,4 @@
--- The laws of a record made of parts that tile its columns: each part stands in it, and no other line of 290 characters holds them all.
+-- Laws: a record made of parts that tile its columns: each part stands in it, and no other line of 290 characters holds them all.
 use Prim.Native.Nat.{ℕ, _+_, _-_, _^_, _<_, _≤_}
 use mathlib.Core.Bool.{Bool, true, false, _&&_}
 use mathlib.Core.List.{List, [], _∷_}

@@ -1,4 +1,4 @@
--- The T and the F record that are written.
+-- Definitions: the T and the F record that are written.
 use Prim.Native.Nat.{ℕ}
 use mathlib.Core.List.{List, [], _∷_}
 use Rattle.laws.specs.Spelling.{bytes}

@@ -1,4 +1,4 @@
--- written-accepted and written-only, of PFML: "the record that the walk accepts next, in capitals; any other accepted one differs only in letter case".
+-- Laws: written-accepted and written-only, of PFML: "the record that the walk accepts next, in capitals; any other accepted one differs only in letter case".
 use Prim.Native.Nat.{ℕ, _^_}
 use mathlib.Core.Bool.{Bool, true, false}
 use mathlib.Core.List.{List, _++_}
@@ -47,13 +47,7 @@ use Rattle.write.specs.PartLaws.{AllFit, record-holds, record-only}
 use Rattle.write.specs.Records.{recordOf, partsOfT, partsOfF, totalRecord, finalRecord}
 use Rattle.write.specs.Writing.{Writing, noTables, isAfterT, totalNext, finalNext, noneToTotal, refusalOf, totalWriting, finalWriting}
 use Rattle.write.specs.WritingLaws.{not-refused, free-written, written-is}
-
--- The next line call accepts this text, with each of the three line ends and any bytes behind, and the walk is then the one behind such a record.
-abbrev pub AcceptedNext : Walk → Tables → Said → List ℕ → Type 0
-AcceptedNext walk t said text =
-    (end : LineEnd) (rest : List ℕ)
-    → (lineStep walk (firstLine (text ++ (endBytes end ++ rest))) t .says ≡ allWell)
-    × (lineStep walk (firstLine (text ++ (endBytes end ++ rest))) t .walk ≡ walkAfter said walk)
+use Rattle.write.specs.NextAccepted.{AcceptedNext}
 
 -- ---- what is written is accepted
 module _ (walk : Walk) (t : Tables) (fit : unfit (roomOf t) walk ≡ false) (out : List ℕ) where

@@ -1,4 +1,4 @@
--- The fields of T and F: none of their edits is broken exactly if the record's parts stand in the line.
+-- Laws: the fields of T and F: none of their edits is broken exactly if the record's parts stand in the line.
 use Prim.Native.Nat.{ℕ, _-_, _≤_, _<_}
 use mathlib.Core.Bool.{Bool, false, not}
 use mathlib.Core.List.{List, [], _∷_}

@@ -1,4 +1,4 @@
--- "Writing T or F into a lent slice": what a call answers, and what is then in the slice.
+-- Definitions: "Writing T or F into a lent slice": what a call answers, and what is then in the slice.
 use Prim.Native.Nat.{ℕ, _^_}
 use mathlib.Core.Bool.{Bool, true, false, not, _&&_}
 use mathlib.Core.List.{List}

@@ -1,4 +1,4 @@
--- The laws of writing: nothing is refused exactly if no reason to refuse is there, and the slice is the record exactly then.
+-- Laws: nothing is refused exactly if no reason to refuse is there, and the slice is the record exactly then.
 use Prim.Native.Nat.{ℕ}
 use mathlib.Core.Bool.{Bool, true, false}
 use mathlib.Core.List.{List}

@@ -120,8 +120,8 @@ fn is_unfit(st: State) -> bool
     fitness::is_unfit(st, st.used, all.employers as usize)
 }
 
-// The refusals in order: `long` says that the slice has its length, `next` that the record may come next, `none` that there is none to total,
-// `large` that the sum is too large.
+// The refusals in order: `long` says that the slice has its length, `next` that the record may come
+// next, `none` that there is none to total, `large` that the sum is too large.
 fn answer(unfit: bool, long: bool, next: bool, none: bool, large: bool) -> Wrote
     ensures { λ r. ⌜ noticeIn r ≡ notice (refusalOf unfit long next none large) 0 0 ⌝ }
 {

@@ -5,7 +5,7 @@ use Rattle.edits.specs.FieldEditLaws.{no-fields}
 use Rattle.pfml_fields.specs.Rows.{part-of-A, part-of-E, part-of-S, part-of-T, part-of-F}
 use Rattle.chars.specs.Characters.{capitals}
 use Rattle.pfml.specs.declared.kind.Kind.the-variants.{Transmitter, Employer, Employee, Total, Final}
-use Rattle.pfml_fields.specs.FieldRules.{rules-of-A, rules-of-E, rules-of-S, rules-of-T, rules-of-F}
+use Rattle.pfml_fields.specs.FieldRuleLaws.{rules-of-A, rules-of-E, rules-of-S, rules-of-T, rules-of-F}
 use Rattle.pfml.specs.TextParts.{part-finds}
 use Rattle.pfml.specs.Edits.{around}
 use Rattle.pfml.specs.Kinds.{landmarksOf}
