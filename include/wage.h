@@ -1,17 +1,23 @@
-/* The wage file library for C and C++: the walk over a wage file, the writing of T and F records, the building of A, E and S records and the reading of
- * their fields, and the frames of the acknowledgement.
+/* The wage file library for C and C++: the walk over a wage file, the writing of T and F
+ * records, the building of A, E and S records and the reading of their fields, and the frames of
+ * the acknowledgement.
  *
- * It is proved in Rattle (docs/PROVED.md): every call below returns, touches nothing but what it is lent, and answers as written here, whatever
- * numbers and bytes it is lent. Link libwage.a (x86-64 Linux), which `rt staticlib wage` writes; of the C library it needs memcpy and memset.
+ * It is proved in Rattle (docs/PROVED.md): every call below returns, touches nothing but what it
+ * is lent, and answers as written here, whatever numbers and bytes it is lent. Link libwage.a
+ * (x86-64 Linux), which `rt staticlib wage` writes; of the C library it needs memcpy and memset.
  *
  * What the caller owes. No proof reaches a caller in C, and nothing below is tested at run time:
- *   - each pointer is good for as many elements as the length behind it says: to be read, and where it is not const to be written;
- *   - it is aligned as its type is in C: 8 bytes for uint64_t and wage_employer, 4 for uint32_t, 1 for bytes;
+ *   - each pointer is good for as many elements as the length after it says: to be read, and
+ *     where it is not const to be written;
+ *   - it is aligned as its type is in C: 8 bytes for uint64_t and wage_employer, 4 for uint32_t,
+ *     1 for bytes;
  *   - no two of the areas lent to one call overlap, one that is only read included;
- *   - the thread has WAGE_STACK_BYTES of stack: wage_whole needs the most of them, 37,000, for one table of fixed size, the other calls less than 4,096. No call
- *     is recursive, and none takes stack by the length of what it is lent.
- * With length 0 a pointer is not followed, and may be null. The library has no memory of its own: between two calls the caller keeps everything, and
- * calls from several threads at once are fine as long as they share nothing that one of them writes. */
+ *   - the thread has WAGE_STACK_BYTES of stack: wage_whole needs the most of them, 37,000, for
+ *     one table of fixed size, the other calls less than 4,096. No call is recursive, and none
+ *     takes stack by the length of what it is lent.
+ * With length 0 a pointer is not followed, and may be null. The library has no memory of its
+ * own: between two calls the caller keeps everything, and calls from several threads at once are
+ * fine as long as they share nothing that one of them writes. */
 #ifndef WAGE_H
 #define WAGE_H
 
@@ -22,12 +28,14 @@
 extern "C" {
 #endif
 
-/* The version of what is declared here. A program compares it with what the library says of itself before it makes any other call: the words of the state and
- * the entries of the list change from version to version. */
+/* The version of what is declared here. A program compares it with what the library says of
+ * itself before it makes any other call: the words of the state and the entries of the list
+ * change from version to version. */
 #define WAGE_ABI_VERSION 1
 uint64_t wage_abi_version(void);
 
-/* A stack of so many bytes is enough for every call, also where a thread has no more than that in all. */
+/* A stack of so many bytes is enough for every call, also where a thread has no more than that
+ * in all. */
 #define WAGE_STACK_BYTES 65536
 
 /* An entry of the employer list: 24 bytes, three numbers in this order and no padding. */
@@ -37,20 +45,21 @@ typedef struct wage_employer {
     uint64_t cents; /* their wages */
 } wage_employer;
 
-/* The format of a file, by the number that it is given at opening. Another number names no format; the state of a walk that was opened with one holds
- * WAGE_FORMAT_NONE. */
+/* The format of a file, by the number that it is given at opening. Another number names no
+ * format; the state of a walk that was opened with one holds WAGE_FORMAT_NONE. */
 enum {
     WAGE_FORMAT_PFML = 0, /* the paid leave wage file, records of 290 characters */
     WAGE_FORMAT_NONE = 255
 };
 
-/* Every call but wage_abi_version, wage_field_text and wage_field_first returns a number: 0 if all is well, else that of the refusal.
+/* Every call but wage_abi_version, wage_field_text and wage_field_first returns a number: 0 if
+ * all is well, else that of the refusal.
  *
  *   1 to 65   the file is refused: docs/REASONS.md has every number
  *   70        year and month are no last closed quarter
  *   71        a line or the end after acceptance; nothing changed
- *   72        the state is unfit: words that tell no walk, a format that is none, numbers that no walk has, or more in use than the tables lent hold;
- *             nothing changed
+ *   72        the state is unfit: words that tell no walk, a format that is none, numbers that
+ *             no walk has, or more in use than the tables lent hold; nothing changed
  *   73        the format's number names no format
  *   80 to 83  wage_write_t, wage_write_f: below
  *   84, 85    wage_build_a, wage_build_e, wage_build_s: below
@@ -71,29 +80,36 @@ enum {
     WAGE_BUFFER_TOO_SMALL = 88
 };
 
-/* Every call that is lent an `answer` puts four words at its front, as many of them as fit; the words behind them stay. A caller that wants none lends
- * length 0. */
+/* Every call that is lent an `answer` puts four words at its front, as many of them as fit; the
+ * words after them stay. A caller that wants none lends length 0. */
 enum {
     WAGE_ANSWER_NUMBER = 0, /* what the call returns */
     WAGE_ANSWER_LINE = 1,   /* from 1; 0 if the refusal is not of the file */
     WAGE_ANSWER_COLUMN = 2, /* from 1; 0 if the refusal is neither of the file nor of a field */
-    WAGE_ANSWER_BYTES = 3,  /* wage_line: bytes taken; wage_frames: bytes written; a record written or built: 290; all others, and every refusal: 0 */
+    /* wage_line: bytes taken; wage_frames: bytes written; a record written or built: 290; all
+     * others, and every refusal: 0 */
+    WAGE_ANSWER_BYTES = 3,
     WAGE_ANSWER_VALUE = 3,  /* wage_field_number: the number */
     WAGE_ANSWER_WORDS = 4
 };
 
-/* The state of a walk: 27 words that wage_open fills and every later call is lent. Words behind them stay.
+/* The state of a walk: 27 words that wage_open fills and every later call is lent. Words after
+ * them stay.
  *
- * A call reads any words. Fewer than 27, a standing above 6, or a refusal of a number that is not in the list above or in docs/REASONS.md tell no
- * walk, and the call answers 72; so it does where FORMAT names no format, unless the walk is refused with 70 or 73. S_FOLLOW and NOTED count as 1
- * unless they are 0; LINE and LINES above 4,294,967,295 and COLUMN above 65,535 count as these. A call of the walk then writes the state that it leaves,
- * all 27 words; a line or end call that answers 70, 71, 72 or 73 writes none.
+ * A call reads any words. Fewer than 27, a standing above 6, or a refusal of a number that is
+ * not in the list above or in docs/REASONS.md tell no walk, and the call answers 72; so it does
+ * where FORMAT names no format, unless the walk is refused with 70 or 73. S_FOLLOW and NOTED
+ * count as 1 unless they are 0; LINE and LINES above 4,294,967,295 and COLUMN above 65,535 count
+ * as these. A call of the walk then writes the state that it leaves, all 27 words; a line or end
+ * call that answers 70, 71, 72 or 73 writes none.
  *
- * PFML uses none of the words 18 to 26: a walk over it has zeros there, and 72 compares none of them. Whatever a caller puts there: an opening and a refusal
- * set all of them to zero; an A, E, T or F record sets the open E's to zero and leaves the file's; an S record, the end of an accepted file, and a refusal
- * that is answered again leave all of them. */
+ * PFML uses none of the words 18 to 26: a walk over it has zeros there, and 72 compares none of
+ * them. Whatever a caller puts there: an opening and a refusal set all of them to zero; an A, E,
+ * T or F record sets the open E's to zero and leaves the file's; an S record, the end of an
+ * accepted file, and a refusal that is answered again leave all of them. */
 enum {
-    WAGE_STANDING = 0,           /* 0 before A, 1 after A, 2 E open, 3 after T, 4 after F, 5 accepted, 6 refused */
+    /* 0 before A, 1 after A, 2 E open, 3 after T, 4 after F, 5 accepted, 6 refused */
+    WAGE_STANDING = 0,
     WAGE_REFUSAL = 1,            /* the refusal's number, line and column; 0 unless refused */
     WAGE_REFUSAL_LINE = 2,
     WAGE_REFUSAL_COLUMN = 3,
@@ -123,19 +139,24 @@ enum {
     WAGE_STATE_WORDS = 27
 };
 
-/* The tables. `ids` has room for the identity numbers under one employer (a zero one takes none), `list` for the employers of the file: at most
- * 65,536 are taken. No room for one more is refusal 62 or 63. A call may be lent tables of another length than the call before, as long as they hold
- * what is in use (else 72); their content is the caller's to keep. A refusal from 1 to 65 zeroes every entry of both, again with each later line or
- * end call; behind acceptance `list` holds the employers in file order, then zeros, and `ids` zeros. */
+/* The tables. `ids` has room for the identity numbers under one employer (a zero one takes
+ * none), `list` for the employers of the file: at most 65,536 are taken. No room for one more is
+ * refusal 62 or 63. A call may be lent tables of another length than the call before, as long as
+ * they hold what is in use (else 72); their content is the caller's to keep. A refusal from 1 to
+ * 65 zeroes every entry of both, again with each later line or end call; after acceptance `list`
+ * holds the employers in file order, then zeros, and `ids` zeros. */
 
-/* Opens a walk over a file of this format for the last closed quarter, year 2025 to 9999 and month 3, 6, 9 or 12: zeroes both tables and fills the state.
- * In this order: 72 for fewer than 27 words of state: nothing is touched but the answer; 70 for another quarter; 73 for another format. After 70 and 73 the
- * state holds that refusal, and no table is touched; each later line or end call answers it again and touches nothing but the answer. */
+/* Opens a walk over a file of this format for the last closed quarter, year 2025 to 9999 and
+ * month 3, 6, 9 or 12: zeroes both tables and fills the state. In this order: 72 for fewer than
+ * 27 words of state: nothing is touched but the answer; 70 for another quarter; 73 for another
+ * format. After 70 and 73 the state holds that refusal, and no table is touched; each later line
+ * or end call answers it again and touches nothing but the answer. */
 uint64_t wage_open(uint64_t format, uint64_t year, uint64_t month, uint64_t *state, size_t state_length, uint64_t *answer, size_t answer_length,
                    uint32_t *ids, size_t ids_length, wage_employer *list, size_t list_length);
 
-/* Reads the first line of the bytes: all that remains of the file, or at least 292 bytes of it. ANSWER_BYTES says how many the line and its end take,
- * and what lies behind them is ignored. No bytes are a line of length 0. */
+/* Reads the first line of the bytes: all that remains of the file, or at least 292 bytes of it.
+ * ANSWER_BYTES says how many the line and its end take, and what follows them is ignored. No
+ * bytes are a line of length 0. */
 uint64_t wage_line(uint64_t *state, size_t state_length, const uint8_t *bytes, size_t bytes_length, uint64_t *answer, size_t answer_length,
                    uint32_t *ids, size_t ids_length, wage_employer *list, size_t list_length);
 
@@ -143,21 +164,24 @@ uint64_t wage_line(uint64_t *state, size_t state_length, const uint8_t *bytes, s
 uint64_t wage_end(uint64_t *state, size_t state_length, uint64_t *answer, size_t answer_length, uint32_t *ids, size_t ids_length,
                   wage_employer *list, size_t list_length);
 
-/* A file in one piece: opening, a line call while any byte remains and none is refused, then the end call, whose answer this is. */
+/* A file in one piece: opening, a line call while any byte remains and none is refused, then the
+ * end call, whose answer this is. */
 uint64_t wage_whole(uint64_t format, uint64_t year, uint64_t month, const uint8_t *bytes, size_t bytes_length, uint64_t *state,
                     size_t state_length, uint64_t *answer, size_t answer_length, uint32_t *ids, size_t ids_length, wage_employer *list,
                     size_t list_length);
 
-/* Writes the T, or the F, record that the walk accepts next into `out`, 290 bytes without a line end. In this order: 72; 83 if `out` is not 290
- * bytes; 80 if no T (no F) can stand here; 81 for a T without S records under an E that says some follow; 82 if the sum is too large for the record.
- * If refused, `out` is untouched. No table is lent, so 72 compares none. */
+/* Writes the T, or the F, record that the walk accepts next into `out`, 290 bytes without a line
+ * end. In this order: 72; 83 if `out` is not 290 bytes; 80 if no T (no F) can stand here; 81 for
+ * a T without S records under an E that says some follow; 82 if the sum is too large for the
+ * record. If refused, `out` is untouched. No table is lent, so 72 compares none. */
 #define WAGE_RECORD_BYTES 290
 uint64_t wage_write_t(const uint64_t *state, size_t state_length, uint8_t *out, size_t out_length, uint64_t *answer, size_t answer_length);
 uint64_t wage_write_f(const uint64_t *state, size_t state_length, uint8_t *out, size_t out_length, uint64_t *answer, size_t answer_length);
 
-/* The fields of the records, counted from 0 in the order of their tables: places in `values`, and arguments of the calls that read a field. Behind each
- * its columns; a text is named as one, all others are numbers. The fields without a name are the record's letter, the taxing entity code and blank
- * space, which no caller gives. */
+/* The fields of the records, counted from 0 in the order of their tables: places in `values`,
+ * and arguments of the calls that read a field. Beside each stand its columns; a text is named
+ * as one, all others are numbers. The fields without a name are the record's letter, the taxing
+ * entity code and blank space, which no caller gives. */
 enum {
     WAGE_A_TAX_YEAR = 1,         /* 2-5 */
     WAGE_A_FEIN = 2,             /* 6-14 */
@@ -221,17 +245,22 @@ enum {
 /* The value of an account number that is left out: its ten columns are blank. */
 #define WAGE_NO_ACCOUNT ((uint64_t)-1)
 
-/* Builds an A, E or S record from unpadded values into `out`, 290 bytes without a line end, in capitals: texts left justified and filled with blanks,
- * numbers right justified and filled with zeros.
+/* Builds an A, E or S record from unpadded values into `out`, 290 bytes without a line end, in
+ * capitals: texts left justified and filled with blanks, numbers right justified and filled with
+ * zeros.
  *
- * `values` has one entry for each field of the record: of a number the number; of a text how many bytes of `texts` it takes, where the texts stand one
- * behind the other in the order of the fields; the entries of fields without a name are not looked at. An entry past the end is 0, a text ends where
- * `texts` ends, and what is left over of either is ignored.
+ * `values` has one entry for each field of the record: of a number the number; of a text how
+ * many bytes of `texts` it takes, where the texts stand one after the other in the order of the
+ * fields; the entries of fields without a name are not looked at. An entry past the end is 0, a
+ * text ends where `texts` ends, and what is left over of either is ignored.
  *
- * In this order: 84 if `out` is not 290 bytes, column 0; then field by field, in the order of the columns: 85 if the value is longer than the field, at the
- * field's first column (trailing blanks count); 3 at the first character that a file may not hold; then the field's own rules over the padded record, of
- * docs/REASONS.md 32, 33, 35 to 38, 40, 44, 47, 48, 50, 51, 52, 54 and 64, with their columns. If refused, `out` is untouched. The line is always 0. Rules that look at
- * other records or at the last closed quarter are those of wage_line: what is built here may still be refused there. */
+ * In this order: 84 if `out` is not 290 bytes, column 0; then field by field, in the order of
+ * the columns: 85 if the value is longer than the field, at the field's first column (trailing
+ * blanks count); 3 at the first character that a file may not hold; then the field's own rules
+ * over the padded record, of docs/REASONS.md 32, 33, 35 to 38, 40, 44, 47, 48, 50, 51, 52, 54
+ * and 64, with their columns. If refused, `out` is untouched. The line is always 0. Rules that
+ * look at other records or at the last closed quarter are those of wage_line: what is built here
+ * may still be refused there. */
 uint64_t wage_build_a(const uint64_t *values, size_t values_length, const uint8_t *texts, size_t texts_length, uint8_t *out, size_t out_length,
                       uint64_t *answer, size_t answer_length);
 uint64_t wage_build_e(const uint64_t *values, size_t values_length, const uint8_t *texts, size_t texts_length, uint8_t *out, size_t out_length,
@@ -239,25 +268,31 @@ uint64_t wage_build_e(const uint64_t *values, size_t values_length, const uint8_
 uint64_t wage_build_s(const uint64_t *values, size_t values_length, const uint8_t *texts, size_t texts_length, uint8_t *out, size_t out_length,
                       uint64_t *answer, size_t answer_length);
 
-/* Read a field of a line. `letter` is A, E, S, T or F, a capital, and decides by itself which record's fields are meant; `field` is one of the numbers
- * above, or that of a field without a name. Of a record that was built the values come back, in capitals and without trailing blanks; an account number
- * that was left out has a text of no characters.
+/* Read a field of a line. `letter` is A, E, S, T or F, a capital, and decides by itself which
+ * record's fields are meant; `field` is one of the numbers above, or that of a field without a
+ * name. Of a record that was built the values come back, in capitals and without trailing
+ * blanks; an account number that was left out has a text of no characters.
  *
- * wage_field_number: the number in the field's columns, as ANSWER_VALUE, and 0. 30 where it is none, with the first column that holds no digit, those
- * behind the line's end among them; at the first column of a field that has more than 19 columns; and at column 0 where there is no such field.
- * wage_field_text: how many characters the field has, counted without trailing blanks and as far as the line goes; 0 where there is no such field.
- * wage_field_first: the field's first column, so that its text begins at line[wage_field_first(letter, field) - 1]; 0 where there is no such field. */
+ * wage_field_number: the number in the field's columns, as ANSWER_VALUE, and 0. 30 where it is
+ * none, with the first column that holds no digit, those past the line's end among them; at the
+ * first column of a field that has more than 19 columns; and at column 0 where there is no such
+ * field. wage_field_text: how many characters the field has, counted without trailing blanks and
+ * as far as the line goes; 0 where there is no such field. wage_field_first: the field's first
+ * column, so that its text begins at line[wage_field_first(letter, field) - 1]; 0 where there is
+ * no such field. */
 uint64_t wage_field_number(uint8_t letter, size_t field, const uint8_t *line, size_t line_length, uint64_t *answer, size_t answer_length);
 uint64_t wage_field_text(uint8_t letter, size_t field, const uint8_t *line, size_t line_length);
 uint64_t wage_field_first(uint8_t letter, size_t field);
 
-/* Writes the acknowledgement of a walk that has ended, by acceptance or by refusal, to the front of `out`; bytes behind it stay. It is lines of
- * hexadecimal, each with LF: 35 bytes for each employer and 35 more; 17 bytes for a refusal. The return value tells whether it was written, not whether
- * the file was accepted: that is WAGE_STANDING. In this order: 72, which compares the list alone; 87 if the walk has not ended; 88 if `out` is too
- * small. `out` is then untouched.
+/* Writes the acknowledgement of a walk that has ended, by acceptance or by refusal, to the front
+ * of `out`; bytes after it stay. It is lines of hexadecimal, each with LF: 35 bytes for each
+ * employer and 35 more; 17 bytes for a refusal. The return value tells whether it was written,
+ * not whether the file was accepted: that is WAGE_STANDING. In this order: 72, which compares
+ * the list alone; 87 if the walk has not ended; 88 if `out` is too small. `out` is then
+ * untouched.
  *
- * A frame has 4 bytes for the FEIN and 4 for the count. Those of a file fit; of a larger one, which only the caller can have put into the list, the low
- * 4 bytes are written. */
+ * A frame has 4 bytes for the FEIN and 4 for the count. Those of a file fit; of a larger one,
+ * which only the caller can have put into the list, the low 4 bytes are written. */
 #define WAGE_FRAMES_BYTES(employers) (35 * ((size_t)(employers) + 1))
 uint64_t wage_frames(const uint64_t *state, size_t state_length, const wage_employer *list, size_t list_length, uint8_t *out, size_t out_length,
                      uint64_t *answer, size_t answer_length);

@@ -1,5 +1,5 @@
 #!/usr/bin/env python3
-"""Holds docs/CONTRACTS.md to the public functions of the crates.
+"""Holds docs/CONTRACTS.md to the public functions of the crates, and the list of docs/PROVED.md to the files of definitions.
 
 Every public function of a library crate has an `ensures` and no `requires`, and stands in the table of docs/CONTRACTS.md that has its answer and definition, and
 in the one that names the law by which no second answer fits its promise; the tables name no other. The programs have no public function. A crate below them
@@ -53,7 +53,32 @@ def contracts(page):
         yield "%s::%s%s" % (crate, inside, name.split("::")[-1])
 
 
+KINDS = ("-- Definitions: ", "-- Laws: ", "-- Follows the code; need not be believed. ")
+
+
+def spec_files():
+    """Each file of definitions or laws, with its first line; not the list of a crate's files."""
+    for path in sorted(glob.glob(os.path.join(ROOT, "crates", "*", "specs", "*.antt"))):
+        if os.path.basename(path) != "Lib.antt":
+            yield os.path.relpath(path, ROOT).replace(os.sep, "/"), read(path).split("\n", 1)[0]
+
+
+def believed():
+    """docs/PROVED.md lists the files of definitions, each once and no other; every file of specs/ says in its first line of which kind it is."""
+    section = re.search(r"\n## The files to believe, in reading order\n(.*?)\n## ", read("docs", "PROVED.md"), re.S).group(1)
+    listed = re.findall(r"\]\(\.\./(crates/\w+/specs/\w+\.antt)\)", section)
+    definitions = []
+    for path, first in spec_files():
+        check("%s says what it is: definitions, laws, or what follows the code" % path, first.startswith(KINDS))
+        if first.startswith(KINDS[0]):
+            definitions.append(path)
+            check("%s is listed in docs/PROVED.md, once" % path, listed.count(path) == 1)
+    for path in listed:
+        check("%s of docs/PROVED.md is a file of definitions" % path, path in definitions)
+
+
 def main():
+    believed()
     page = read("docs", "CONTRACTS.md")
     told = list(contracts(page))
     section = re.search(r"\n## That no second answer fits\n(.*?)\n## ", page, re.S).group(1).splitlines()
