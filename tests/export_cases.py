@@ -12,6 +12,7 @@ import sys
 import tempfile
 
 import c_programs
+import compare_source
 import stack_depth
 from c_programs import ROOT
 from program_answers import EARLIER, QUARTER
@@ -140,7 +141,7 @@ def fields_in_header(text):
     """The header's fields are rows of the list of fields, by number and columns; a text is named as one."""
     rows = read("crates", "pfml_fields", "specs", "Fields.antt").decode()
     for letter in "AESTF":
-        table = re.findall(r"^ +row (\w+) (\d+) (\d+) ∷", re.search(r"^fieldsOf%s =\n(.*?)\[\]" % letter, rows, re.M | re.S).group(1), re.M)
+        table = [(class_, str(first), str(last)) for class_, first, last, _ in compare_source.listed_fields(rows, letter)]
         named = re.findall(r"^ +WAGE_%s_(\w+) = (\d+), +/\* (\d+)-(\d+)(, text)?" % letter, text, re.M)
         told = [("%s" % number, first, last, bool(words)) for _, number, first, last, words in named]
         given = [("%d" % k, first, last, class_ in TEXTS) for k, (class_, first, last) in enumerate(table) if class_ not in CONSTANTS]
