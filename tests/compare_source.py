@@ -228,7 +228,7 @@ def listed_fields(text, record):
 
 
 def is_short_for(name, full):
-    """A comment names the field in the source's words, to its end or up to '..'; behind a colon it may say more."""
+    """A comment names the field in the source's words, to its end or up to '..'; after a colon it may say more."""
     short = name.split(":")[0]
     return full.startswith(short[:-2].rstrip()) if short.endswith("..") else full.rstrip(".") == short.rstrip(".")
 

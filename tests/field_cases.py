@@ -86,7 +86,7 @@ def numbers():
 
 
 def itins():
-    """Every fourth and fifth digit behind 9; about the ends of the ranges behind other digits too; what is no number of nine digits."""
+    """Every fourth and fifth digit after 9; about the ends of the ranges after other digits too; what is no number of nine digits."""
     for middle in range(100):
         yield 25, 1, 9, "966%02d6700" % middle
     for middle in (49, 50, 65, 66, 69, 70, 88, 89, 90, 92, 93, 94, 99):
@@ -127,7 +127,7 @@ def addresses():
 
 
 def around(held):
-    """The quarters beside a last closed one, as six digits: two before it and three behind it, and its own month a year before and behind it."""
+    """The quarters beside a last closed one, as six digits: two before it and three after it, and its own month a year before and after it."""
     year, month = int(held[:4]), int(held[4:])
     for steps in (-4, -2, -1, 0, 1, 2, 3, 4):
         count = year * 4 + month // 3 - 1 + steps

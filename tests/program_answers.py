@@ -179,7 +179,7 @@ def command_failures(file):
     # Reading it fails for everybody, unlike a file without permission, which root may read.
     refused_to_answer("a file that cannot be read", wage_ack(QUARTER, "/proc/self/mem"))
     terminal = broken_terminal(read(file))
-    refused_to_answer("a read that fails behind the last record", wage_ack(QUARTER, "-", stdin=terminal))
+    refused_to_answer("a read that fails after the last record", wage_ack(QUARTER, "-", stdin=terminal))
     os.close(terminal)
     refused_to_answer("no arguments", wage_ack())
     refused_to_answer("three arguments", wage_ack(QUARTER, file, file))
@@ -210,7 +210,7 @@ def program_failures(input_bytes):
     with open("/proc/self/mem", "rb") as memory:
         no_frame("an input that cannot be read", subprocess.run(PROGRAM, stdin=memory, capture_output=True))
     terminal = broken_terminal(input_bytes)
-    no_frame("a read that fails behind the last record", subprocess.run(PROGRAM, stdin=terminal, capture_output=True))
+    no_frame("a read that fails after the last record", subprocess.run(PROGRAM, stdin=terminal, capture_output=True))
     os.close(terminal)
     with open("/dev/full", "wb") as full:
         no_frame("a full device", subprocess.run(PROGRAM, input=input_bytes, stdout=full, stderr=subprocess.PIPE))

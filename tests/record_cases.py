@@ -24,7 +24,7 @@ CLASS = {
     "BLANK_SPACE": ref.BLANK, "NUMERIC": ref.NUMERIC, "ACCOUNT_NUMBER": ref.ACCOUNT, "REQUIRED_TEXT": ref.REQUIRED, "OPTIONAL_TEXT": ref.OPTIONAL,
     "PERSON_NAME": ref.NAME, "TAX_YEAR": ref.YEAR, "EMPLOYER_FEIN": ref.FEIN, "IDENTITY_NUMBER": ref.IDENTITY, "CEASE_DATE": ref.DATE,
 }
-# document 01: "begins with 666 or 9"; document 02 (i): behind 9 only where the fourth and fifth digits are not 50 to 65, 70 to 88, 90 to 92, 94 to 99
+# document 01: "begins with 666 or 9"; document 02 (i): after 9 only where the fourth and fifth digits are not 50 to 65, 70 to 88, 90 to 92, 94 to 99
 REFUSED_IDENTITY = re.compile("666|9..([0-4].|6[6-9]|89|93)")
 
 
@@ -64,7 +64,7 @@ def cease_date(text, v, c):
 
 
 def rule(letter, name, a, b, text, c):
-    """The number of the first rule of a field that is broken behind its class test, or 0."""
+    """The number of the first rule of a field that is broken after its class test, or 0."""
     v = ref.number_or_zero(text, a, b)
     state = text[138:140]
     kind = "state" if state in ref.STATES else "province" if state in ref.PROVINCES else None
@@ -203,7 +203,7 @@ def quarter_behind(held, steps):
 
 
 def quarter_to_file(held, pick):
-    """Often a closed quarter or the current one, at times one behind it; none is of a year that four digits cannot write."""
+    """Often a closed quarter or the current one, at times one after it; none is of a year that four digits cannot write."""
     steps = pick.choice((-3, -1, -1, 0, 0, 0, 1, 1, 1, 2 if pick.random() < 0.5 else 0))
     quarter = quarter_behind(held, steps)
     return quarter if 2025 <= quarter[0] <= 9999 else held
@@ -222,7 +222,7 @@ def context(letter, pick):
 
 
 def identity_lines():
-    """S records in the contexts that chance gives them, but for where they stand: 52 or what comes behind it."""
+    """S records in the contexts that chance gives them, but for where they stand: 52 or what comes after it."""
     pick = random.Random(52)
     ends = ["966%02d6700" % middle for middle in (49, 50, 65, 66, 69, 70, 88, 89, 90, 92, 93, 94, 99)]
     for identity in ["665999999", "666000001", "899999999"] + ends:
@@ -242,7 +242,7 @@ CALM = dict(held=(2026, 6), filed=(2026, 3), fein=12345678, follow=1, count=3, s
 
 
 def zero_feins(pick):
-    """A FEIN of nine zeros: in A and E, in E though it was seen and the list is full, beside rules of a field before it and of one behind it; in S and T,
+    """A FEIN of nine zeros: in A and E, in E though it was seen and the list is full, beside rules of a field before it and of one after it; in S and T,
     also where the open E's is no other."""
     zeros, name, year = "000000000", (24, " "), (2, "2024")
     for letter, more, fein, *changes in (
@@ -256,8 +256,8 @@ def zero_feins(pick):
 
 
 def current_quarters(pick):
-    """A under each last closed quarter: of that quarter, of the current one, of the one behind it and of the year beyond. E, in a file of a closed quarter, of
-    the current one and of a later one: a final return and one that is not, flags that are none, and 65 beside the fields before and behind it."""
+    """A under each last closed quarter: of that quarter, of the current one, of the one after it and of the year beyond. E, in a file of a closed quarter, of
+    the current one and of a later one: a final return and one that is not, flags that are none, and 65 beside the fields before and after it."""
     for held in ((2026, 3), (2026, 9), (2026, 12), (9999, 9), (9999, 12), (2025, 12)):
         for steps in (0, 1, 2, 5 if held[1] == 12 else 4):
             quarter = quarter_behind(held, steps)

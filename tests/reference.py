@@ -1,7 +1,7 @@
 """The rules of document 01 for single fields, lines and dates, as document 02 amends them, written from the papers alone.
 
 It shares nothing with the product: the tests compare what the two say. A finding is (number, column), (0, 0) where nothing is
-broken; a reading adds the value. Columns are counted from 1; behind a line's end there is no character.
+broken; a reading adds the value. Columns are counted from 1; after a line's end there is no character.
 """
 import datetime
 

@@ -33,7 +33,7 @@ def functions(lines):
             found[name]["own"] += 8
         if re.search(r"\tcall\s+\*", line) or re.search(r"\tsub\s+%\w+,%rsp", line):
             raise ValueError("%s: %s" % (name, line.strip()))
-        # A relocation stands behind the instruction that it belongs to. A call without one is of nothing that can be told.
+        # A relocation stands after the instruction that it belongs to. A call without one is of nothing that can be told.
         target = re.search(r"R_X86_64_PLT32\s+(?:\.text\.)?([^\s+-]+)", line)
         if target and jumps:
             found[name]["calls"].add(target.group(1))

@@ -175,7 +175,7 @@ def run_script(text):
 # Making a script.
 
 class Script:
-    """Commands so far, and the program's state behind them, by which the next ones are made. `lent` is how much of the tables each call is lent."""
+    """Commands so far, and the program's state after them, by which the next ones are made. `lent` is how much of the tables each call is lent."""
 
     def __init__(self, room):
         self.program = Program()
@@ -350,7 +350,7 @@ def line_ends(w):
 
 
 def afterwards(w):
-    """Calls behind a refusal, 70 and acceptance, with content in the tables."""
+    """Calls after a refusal, 70 and acceptance, with content in the tables."""
     w.lent = (1, 2)
     w.open(HELD)
     w.line("A\n")
@@ -380,7 +380,7 @@ def afterwards(w):
 
 
 def ends(w):
-    """An end call in each phase; a line behind F and before the end call goes by the ordinary rules."""
+    """An end call in each phase; a line after F and before the end call goes by the ordinary rules."""
     w.lent = (1, 1)
     for stage in (BEFORE_A, AFTER_A, E_OPEN, AFTER_T, AFTER_F):
         content(w)
@@ -452,7 +452,7 @@ def no_bounds(w):
 
 
 def room(w):
-    """62 and 63, and 53 and 45 in front of them; ids and entries behind those in use count for nothing."""
+    """62 and 63, and 53 and 45 in front of them; ids and entries after those in use count for nothing."""
     e_open = standing(E_OPEN)
     for ids, used, identity in ((1, 1, 222222222), (2, 1, 222222222), (1, 1, 111111111), (1, 1, 0), (0, 0, 0), (0, 0, 5), (2, 0, 222222222)):
         content(w)
@@ -467,7 +467,7 @@ def room(w):
 
 
 def nine_zeros(w):
-    """64, of A and of E, with content in the tables, and called again; before 45 and 63, behind the place. In S and T zeros are a FEIN as any other."""
+    """64, of A and of E, with content in the tables, and called again; before 45 and 63, after the place. In S and T zeros are a FEIN as any other."""
     w.lent = (2, 2)
     w.open(HELD)
     content(w)
@@ -493,13 +493,13 @@ def nine_zeros(w):
     w.whole(HELD, joined(a_record(), e_record(0), s_record(111111111, 7, 0), t_record(1, 7, 0), f_record(1, 1, 7)))
 
 
-# The quarter behind HELD, which is the current one, and a closure in it.
+# The quarter after HELD, which is the current one, and a closure in it.
 CURRENT, IN_AUGUST = (2026, 9), "108312026"
 
 
 def closing(w):
-    """65, with content in the tables, and called again, before 50 and behind 47; two employers of the current quarter, both closing, and one of them not;
-    A under 12 of a year, of the year behind it and of the one after that."""
+    """65, with content in the tables, and called again, before 50 and after 47; two employers of the current quarter, both closing, and one of them not;
+    A under 12 of a year, of the year after it and of the one after that."""
     w.lent = (2, 2)
     w.open(HELD)
     w.lines(a_record(CURRENT))
@@ -664,7 +664,7 @@ OTHERS = (1, 9, NO_FORMAT, 256, 2**32, MOST)
 
 
 def formats(w):
-    """Openings with a number that names no format, under a quarter that may be held and under one that may not; and the calls behind them."""
+    """Openings with a number that names no format, under a quarter that may be held and under one that may not; and the calls after them."""
     w.lent = (2, 2)
     for named in OTHERS:
         for held in (HELD, (2025, 9), (2026, 5)):
@@ -1009,7 +1009,7 @@ def files_by_hand():
         ("an employer that does not close", tried(joined(shut[0], e_record(quarter=CURRENT))), refused(65, 2, 282)),
         ("a closed quarter, final or not", replies((a_record(HELD), e_record(quarter=HELD)), (a_record(HELD), e_record(quarter=HELD, closure="106302026"))),
          [(7, 3, 1, 0)] * 2),
-        ("the quarter and the year behind the current one", replies((a_record((2026, 12)),), (a_record((2027, 3)),)), [(41, 1, 19, 0), (39, 1, 2, 0)]),
+        ("the quarter and the year after the current one", replies((a_record((2026, 12)),), (a_record((2027, 3)),)), [(41, 1, 19, 0), (39, 1, 2, 0)]),
         ("one person, two employers", tried(joined(*two), 1), (GOOD, ACCEPTED, [0], [(FEIN, 1, 1), (7, 1, 2)])),
         ("i. zero twice, and no room", tried(joined(A, E, s_record(0, 1), s_record(0, 1), t_record(2, 2), f_record(2, 1, 2)), 0),
          (GOOD, ACCEPTED, [], [(FEIN, 2, 2), NO_ENTRY])),
@@ -1032,10 +1032,10 @@ def rules_by_hand():
         ("T's count; none though E says 1; S under an E saying 0", replies((A, E, *TWO, t_record(1, 123500)), (A, E, T0), (A, E0, five)),
          [(55, 5, 2, 0), (56, 3, 2, 0), (16, 3, 1, 0)]),
         ("F's three", replies(*f_wrong), [(58, 6, 2, 0), (59, 6, 12, 0), (60, 6, 41, 0)]),
-        ("behind F", replies(*[(A, E0, T0, F0, text) for text in (A, E, five, T0, F0)]), [(n, 5, 1, 0) for n in (11, 20, 20, 20, 19)]),
+        ("after F", replies(*[(A, E0, T0, F0, text) for text in (A, E, five, T0, F0)]), [(n, 5, 1, 0) for n in (11, 20, 20, 20, 19)]),
         ("the file ends early", replies((A,), (A, E), EXAMPLE[:4], EXAMPLE[:5]), [(6, 2, 1, 0), (7, 3, 1, 0), (7, 5, 1, 0), (8, 6, 1, 0)]),
         ("tables under an E", tables_behind(A, E, s_record(8, 1), s_record(0, 1), s_record(7, 1)), ([8, 7, 0], [(FEIN, 0, 0), NO_ENTRY])),
-        ("tables behind a T", tables_behind(A, E, s_record(8, 1), t_record(1, 1)), ([0, 0, 0], [(FEIN, 1, 1), NO_ENTRY])),
+        ("tables after a T", tables_behind(A, E, s_record(8, 1), t_record(1, 1)), ([0, 0, 0], [(FEIN, 1, 1), NO_ENTRY])),
         ("a bad quarter, a line and the end", refused_at_opening(PFML, (2026, 7)), ([(70, 0, 0, 0)] * 3, State(stage=REFUSED, number=70), [9], [(9, 9, 9)])),
         ("no format, a line and the end", refused_at_opening(9, (2025, 9)), ([(73, 0, 0, 0)] * 3, State(stage=REFUSED, number=73, format=NO_FORMAT), [9], [(9, 9, 9)])),
         ("no format, and a bad quarter", refused_at_opening(9, (2025, 5)), ([(70, 0, 0, 0)] * 3, State(stage=REFUSED, number=70, format=NO_FORMAT), [9], [(9, 9, 9)])),

@@ -143,7 +143,7 @@ NO_E = dict(NEW_E, fein=0, follow=0)
 
 
 def after_line(st, text, ids, entries):
-    """The state behind a line that passed; what it writes is written."""
+    """The state after a line that passed; what it writes is written."""
     letter = text[0]
     st = st._replace(lines=st.lines + 1)
     if letter == "A":

@@ -14,7 +14,7 @@
 //     G  a field read: the record's letter 2, the field's number 3-22; the line, as bytes
 //     X  a line, lent a list of 65,540 entries, each 7, 8, 9: the state has 65,535 employers, or one or two more, by the digit in 2; bytes. What it
 //        leaves is not kept
-//     S  another state of PFML: the words 0 to 3 as `set_standing` reads them, those up to 16 from 20 on, as wide as `set_state` says, zeros behind them
+//     S  another state of PFML: the words 0 to 3 as `set_standing` reads them, those up to 16 from 20 on, as wide as `set_state` says, zeros after them
 //     N  another number in one word of the state: its place 2-3, the number 4-23
 //     T  another id and another entry: the id's place 2-3, the id 4-13; the entry's place 14-15, its FEIN 16-25, count 26-35 and cents 36-54
 //     K  what the calls to come are lent: so many words of state 2-3, at most 30, and of the answer 4, at most 6. At first it is 27 and 4
@@ -23,7 +23,7 @@
 // out. X prints no ids, and the entries from 65,534 on. R and B print number, line and column, and the slice; F all four, and the buffer, LF as a slash;
 // G all four, and the length of the text and the first column. The number is the one returned; a word of the answer that is not lent is told as 999.
 //
-// What a call is lent stands right before memory that nobody may touch, and behind some that is looked at afterwards. Where a call leaves something that
+// What a call is lent stands right before memory that nobody may touch, and after some that is looked at afterwards. Where a call leaves something that
 // no line would show, the program ends with a message. The calls are made on a thread that has the stack that wage.h names, and no more.
 #include <stddef.h>
 #include <stdint.h>
@@ -147,7 +147,7 @@ static uint64_t number_in(struct text s, size_t first, size_t last)
     return value;
 }
 
-// The bytes behind the first n, none where there are no more.
+// The bytes after the first n, none where there are no more.
 static struct text behind(struct text s, size_t n)
 {
     n = lesser(n, s.length);
@@ -169,7 +169,7 @@ static size_t numbers_from(struct text s, size_t at, uint64_t *to, size_t most)
     return count;
 }
 
-// The bytes behind the first stroke from a place on.
+// The bytes after the first stroke from a place on.
 static struct text behind_stroke(struct text s, size_t at)
 {
     while (at < s.length && s.at[at] != '|') {

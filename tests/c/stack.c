@@ -12,7 +12,7 @@
 
 #include "on_stack.h"
 
-// Enough S records behind each other for the longest run, in which each of the library's ways to look for an identity number is taken.
+// Enough S records after each other for the longest run, in which each of the library's ways to look for an identity number is taken.
 enum { EMPLOYEES = 3000, LINES = EMPLOYEES + 4, LINE = WAGE_RECORD_BYTES + 1, PAINTED = 1 << 20, PAINT = 0xA5, OWN_FRAME = 256 };
 
 static uint8_t file[LINES * LINE];
@@ -186,7 +186,7 @@ static void employee(uint64_t identity)
     values[WAGE_S_FEIN] = 12345678;
 }
 
-// The record goes behind the file, and to the walk that goes with it.
+// The record goes after the file, and to the walk that goes with it.
 static void hand_on(void)
 {
     memcpy(file + length, record, WAGE_RECORD_BYTES);

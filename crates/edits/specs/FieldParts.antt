@@ -10,8 +10,8 @@ use Rattle.chars.specs.Columns.{everyColumn}
 use Rattle.chars.specs.ColumnLaws.{every-anything}
 use Rattle.chars.specs.declared.columns.Allowed.the-variants.{Anything, Digits}
 use Rattle.number.specs.Numbers.{numberIn, valueOf, valueIn}
-use Rattle.number.specs.NumberLaws.{digits-read}
-use Rattle.rules.specs.RuleLaws.{value-says, year-parts, fein-parts, identity-parts}
+use Rattle.number.specs.NumberLaws.{value-says, digits-read}
+use Rattle.rules.specs.RuleLaws.{year-parts, fein-parts, identity-parts}
 use Rattle.text.specs.TextLaws.{required-parts, optional-parts}
 use Rattle.field.specs.ClassTests.{classTest}
 use Rattle.field.specs.ClassLaws.{class-says}

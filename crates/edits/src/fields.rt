@@ -60,7 +60,7 @@ fn number_at(numbers: &[u8], k: usize) -> u8
 fn rules_edit(
     landmarks: Landmarks,
     code: [u8; 4],
-    around: Context,
+    here: Context,
     seen: Seen,
     line: &[u8],
     class: Class,
@@ -68,20 +68,12 @@ fn rules_edit(
     first: u16,
     last: u16,
 ) -> Edit
-    ensures { λ r. ⌜ findingOf r ≡ rulesTest (record { landmarks = landmarks; code = code; here = around; seen = seen }) (capitals (now (line .entry))) class rule first last ⌝ }
+    ensures { λ r. ⌜ findingOf r ≡ rulesTest (record { landmarks = landmarks; code = code; here = here; seen = seen }) (capitals (now (line .entry))) class rule first last ⌝ }
 {
     let e = own::own_edit(landmarks, code, class, line, first, last);
     match e {
         Edit::Broken(_, _) => e,
-        Edit::Passed => with_context::context_edit(
-            rule,
-            landmarks,
-            around,
-            seen,
-            line,
-            first,
-            last,
-        ),
+        Edit::Passed => with_context::context_edit(rule, landmarks, here, seen, line, first, last),
     }
 }
 
@@ -101,13 +93,13 @@ fn look_from(allowed: Allowed, line: &[u8], first: u16, last: u16) -> u16
 pub fn first_broken(
     landmarks: Landmarks,
     code: [u8; 4],
-    around: Context,
+    here: Context,
     seen: Seen,
     line: &[u8],
     rows: &[[u16; 3]],
     rules: &[u8],
 ) -> Edit
-    ensures { λ r. ⌜ findingOf r ≡ fieldsTest (record { landmarks = landmarks; code = code; here = around; seen = seen }) (capitals (now (line .entry))) (now (rows .entry)) (now (rules .entry)) ⌝ }
+    ensures { λ r. ⌜ findingOf r ≡ fieldsTest (record { landmarks = landmarks; code = code; here = here; seen = seen }) (capitals (now (line .entry))) (now (rows .entry)) (now (rules .entry)) ⌝ }
 {
     let mut found = Edit::Passed;
     let mut k = 0;
@@ -132,17 +124,7 @@ pub fn first_broken(
             at += 1;
         }
         let rule = rule_of(number_at(rules, k));
-        let e = rules_edit(
-            landmarks,
-            code,
-            around,
-            seen,
-            line,
-            class,
-            rule,
-            first,
-            last,
-        );
+        let e = rules_edit(landmarks, code, here, seen, line, class, rule, first, last);
         if let Edit::Broken(_, _) = e {
             found = e;
             break 'fields;

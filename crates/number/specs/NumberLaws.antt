@@ -21,6 +21,11 @@ use Rattle.chars.specs.ColumnLaws.{column-says, every-says}
 use Rattle.chars.specs.declared.columns.Allowed.the-variants.{Digits}
 use Rattle.number.specs.Numbers.{numberFrom, numberIn, valueOf, valueIn, putDigits, putNumber}
 
+-- The value of a field is that of its reading.
+pub value-says : (line : List ℕ) (first last : ℕ) → valueIn line first last ≡ valueOf (numberIn line first last)
+unfolding valueIn
+value-says line first last = refl
+
 -- ---- a loop's steps, at a place before `end`
 module _ (line : List ℕ) (v at end : ℕ) where
   pub number-done : end ≤ at → numberFrom line v at (end - at) ≡ value v

@@ -14,13 +14,8 @@ use Rattle.chars.specs.Columns.{widthOf, everyColumn, unless}
 use Rattle.chars.specs.ColumnLaws.{unless-fine, unless-labelled}
 use Rattle.chars.specs.declared.columns.Allowed.the-variants.{Digits}
 use Rattle.number.specs.Numbers.{numberIn, valueOf, valueIn}
-use Rattle.number.specs.NumberLaws.{digits-read, number-alike}
+use Rattle.number.specs.NumberLaws.{value-says, digits-read, number-alike}
 use Rattle.rules.specs.Rules.{onlyIf, onlyOwn, yearIn, periodIn, flagIn, feinIn, beginsWith69, isNineZeros, identityIn, mayBeFiled}
-
--- The value of a field is that of its reading.
-pub value-says : (line : List ℕ) (first last : ℕ) → valueIn line first last ≡ valueOf (numberIn line first last)
-unfolding valueIn
-value-says line first last = refl
 
 rule-finds : (t : Bool) (v first number : ℕ) → findingIn (if t then value v else refused first number) ≡ unless t first number
 rule-finds true v first number = refl
@@ -46,8 +41,7 @@ both-parts passes next first number other (refused column reason) = refl
 module _ (line : List ℕ) (first last : ℕ) (h : first - 1 < last) (w : widthOf first last ≤ 19) where
   parts : (passes : ℕ → Bool) (number : ℕ)
       → findingIn (onlyIf passes first number (numberIn line first last)) ≡ orElse (everyColumn Digits line first last) (unless (passes (valueIn line first last)) first number)
-  unfolding valueIn
-  parts passes number = only-parts passes first number (numberIn line first last) ∙ rw (digits-read line first last h w)
+  parts passes number = rw (value-says line first last) (only-parts passes first number (numberIn line first last) ∙ rw (digits-read line first last h w))
 
   pub year-parts : findingIn (yearIn line first last) ≡ orElse (everyColumn Digits line first last) (unless (isFilingYear (valueIn line first last)) first 38)
   unfolding yearIn
@@ -56,10 +50,11 @@ module _ (line : List ℕ) (first last : ℕ) (h : first - 1 < last) (w : widthO
   pub fein-parts : findingIn (feinIn line first last)
       ≡ orElse (everyColumn Digits line first last)
       (orElse (unless (not (beginsWith69 (valueIn line first last))) first 44) (unless (not (isNineZeros (valueIn line first last))) first 64))
-  unfolding feinIn valueIn
+  unfolding feinIn
   fein-parts =
-      both-parts (λ fein. not (beginsWith69 fein)) (λ fein. not (isNineZeros fein)) first 44 64 (numberIn line first last)
-      ∙ rw (digits-read line first last h w)
+      rw (value-says line first last)
+      (both-parts (λ fein. not (beginsWith69 fein)) (λ fein. not (isNineZeros fein)) first 44 64 (numberIn line first last)
+      ∙ rw (digits-read line first last h w))
 
   pub identity-parts : findingIn (identityIn line first last) ≡ orElse (everyColumn Digits line first last) (unless (mayBeFiled (valueIn line first last)) first 52)
   unfolding identityIn
@@ -71,8 +66,8 @@ own-passes passes first number (value v) e = unless-fine (passes v) first number
 own-passes passes first number (refused column other) e = let z : _≡_ {A = ℕ} 0 1 = cc in absurd (omega arith)
 
 pub period-fine : (line : List ℕ) (first last : ℕ) → findingIn (periodIn line first last) ≡ fine → isQuarterMonth (valueIn line first last) ≡ true
-unfolding periodIn valueIn
-period-fine line first last e = own-passes isQuarterMonth first 40 (numberIn line first last) e
+unfolding periodIn
+period-fine line first last e = rw (value-says line first last) (own-passes isQuarterMonth first 40 (numberIn line first last) e)
 
 -- And the other way: one that reads as a quarter's month is not refused.
 pub period-passes : (line : List ℕ) (first last month : ℕ) → numberIn line first last ≡ value month → isQuarterMonth month ≡ true

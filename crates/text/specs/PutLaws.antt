@@ -47,6 +47,11 @@ capital-more line i c h e =
 pub capital-done : (line : List ℕ) (i : ℕ) → length line ≡ i → capitalTo line i ≡ capitals line
 capital-done line i e = rw (← e, drop-length, append-nil) (rw (← capitals-length line) (take-length (capitals line)))
 
+-- A text is set one character after the other.
+pub text-sets : (line : List ℕ) (first : ℕ) (text : List ℕ) → putText line first text ≡ sets line (first - 1) text
+unfolding putText
+text-sets line first text = refl
+
 -- After the line's end nothing is written.
 pub none-past : (text line : List ℕ) (at : ℕ) → length line ≤ at → sets line at text ≡ line
 none-past [] line at h = refl

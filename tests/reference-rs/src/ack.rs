@@ -24,7 +24,7 @@ pub fn outcome(input: &[u8]) -> Outcome {
     }
 }
 
-/// The quarter of the header and the file behind it; none if the header is not as it should be.
+/// The quarter of the header and the file after it; none if the header is not as it should be.
 /// That the quarter is one that may be held is for the opening to say.
 pub fn header(input: &[u8]) -> Option<(Quarter, &[u8])> {
     let (head, file) = input.split_at_checked(7)?;

@@ -104,7 +104,7 @@ fn check_end(
 }
 
 /// "calls that are each lent the file from where the last one ended: all that remains, or at least
-/// 292 bytes". What the paper says of the id table is looked at behind every call.
+/// 292 bytes". What the paper says of the id table is looked at after every call.
 fn walk_in_pieces(
     held: Quarter,
     room: Room,
@@ -122,7 +122,7 @@ fn walk_in_pieces(
         let answer = walk::line(&mut state, &mut tables.ids, &mut tables.list, &rest[..lent]);
         refusal = answer.refusal;
         rest = &rest[answer.taken..];
-        // Long tables are not looked at behind every one of many lines.
+        // Long tables are not looked at after every one of many lines.
         if room.ids < 100 && opening.is_none() && !id_table_is_as_stated(&state, &tables.ids) {
             return Err("the id table behind a line".to_string());
         }

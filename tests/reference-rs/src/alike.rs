@@ -38,7 +38,7 @@ pub const HYPOTHESES: [Hypothesis; 6] = [
     Hypothesis::Wages,
 ];
 
-/// Six digits and LF. What stands in their place is told as 70, and the file is what is behind.
+/// Six digits and LF. What stands in their place is told as 70, and the file is what is after.
 pub const HEADER: usize = 7;
 
 /// The fields of an employee on an S record: first and last column.

@@ -82,7 +82,7 @@ fn set_last_fein(draft: &mut Draft, fein: u64) -> usize {
 pub fn ids_overflow(rng: &mut Rng) -> Case {
     let zeros = rng.index(20);
     let mut all = employees(rng, ROOM.ids + 1, zeros);
-    // No zero behind the last number.
+    // No zero after the last number.
     while all.last().is_some_and(|(id, _)| *id == 0) {
         all.pop();
     }

@@ -69,7 +69,7 @@ fn refused(number: u8, line: u64, column: u64) -> Meant {
     Meant::Refused(Refusal::new(number, line, column))
 }
 
-/// Every sequence of up to two records, and of A and up to four behind it; each record is as it
+/// Every sequence of up to two records, and of A and up to four after it; each record is as it
 /// would have to be there.
 fn sequences(list: &mut List, seed: u64) {
     let mut rng = Rng::of(seed, 99, 0);

@@ -233,7 +233,7 @@ enum Behind {
     F,
 }
 
-/// Each record behind each other one where it may not stand. Typed from "Place: before A, ...".
+/// Each record after each other one where it may not stand. Typed from "Place: before A, ...".
 const OUT_OF_PLACE: [(Behind, u8, u8); 26] = [
     (Behind::Nothing, b'E', 10),
     (Behind::Nothing, b'S', 10),
@@ -263,7 +263,7 @@ const OUT_OF_PLACE: [(Behind, u8, u8); 26] = [
     (Behind::F, b'T', 20),
 ];
 
-/// The place right behind such a record.
+/// The place right after such a record.
 fn place_behind(rng: &mut Rng, draft: &mut Draft, behind: Behind) -> Option<usize> {
     let saying = |draft: &Draft, mark: &[u8]| -> Vec<usize> {
         let mut places = draft.places(b'E');

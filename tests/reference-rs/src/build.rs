@@ -2,7 +2,7 @@
 //! E and S records from unpadded field values into a lent 290-byte slice".
 //!
 //! A record's values are one number for each field of its table, in the table's order: of a number
-//! field the number, of a text how many of the texts' bytes it is, the texts standing one behind the
+//! field the number, of a text how many of the texts' bytes it is, the texts standing one after the
 //! other (docs/DECISIONS.md, "Values are given by field number"). A value that is not there is 0, and
 //! a text ends where the texts end.
 

@@ -14,15 +14,15 @@
 //!   employers 94-103 and cents 104-122, ids in use 123-132; it is of PFML, and what PFML does not
 //!   use is zero
 //! - `T`, another id and another entry: the id's place 2-3, the id 4-13, the entry's place 14-15, its
-//!   FEIN 16-25, count 26-35 and cents 36-54; a place behind a table's end alters nothing
+//!   FEIN 16-25, count 26-35 and cents 36-54; a place after a table's end alters nothing
 //! - `X`, a line, lent a list of 65,540 entries: the state has 65,535 employers, or one or two more,
 //!   by the digit in 2; bytes
 //! - `R`, a record written: `T` or `F` in 2, the length of the slice lent 3-5, at most 300
 //! - `F`, the frames: entries lent 2-3, the length of the buffer lent 4-6, at most 500
 //! - `B`, a record built: `A`, `E` or `S` in 2, the length of the slice lent 3-5, at most 300; then
-//!   the values, at most 40, a comma before each; then the texts, at most 600 bytes, behind a stroke
+//!   the values, at most 40, a comma before each; then the texts, at most 600 bytes, after a stroke
 //! - `G`, a field read: the record's letter 2, the field's number 3-22; the line, as bytes
-//! - `N`, another number in one word of the state: its place 2-3, the number 4-23; a place behind
+//! - `N`, another number in one word of the state: its place 2-3, the number 4-23; a place after
 //!   the words alters nothing
 //! - `K`, what the calls to come are lent: words of state 2-3, at most 30, and of the answer 4, at
 //!   most 6
@@ -421,7 +421,7 @@ impl Columns<'_> {
         })
     }
 
-    /// What stands behind the stroke in this column.
+    /// What stands after the stroke in this column.
     fn bytes(&self, stroke: usize) -> Option<Vec<u8>> {
         let (mark, bytes) = self.0.get(stroke - 1..)?.split_first()?;
         (*mark == b'|').then(|| bytes.to_vec())

@@ -70,7 +70,7 @@ pub trait Before {
     /// The last closed quarter that the caller gave.
     fn held(&self) -> Quarter;
     fn phase(&self) -> Phase;
-    /// Asked only behind A.
+    /// Asked only after A.
     fn quarter_of_a(&self) -> Quarter;
     /// The next five are asked only while an E is open.
     fn open_fein(&self) -> u64;

@@ -11,7 +11,7 @@
 //! - `reference long SEED COUNT INPUTS EXPECTED`: the same with long files alone. From 40 cases on it
 //!   fails if 61 comes fewer than 20 times.
 //! - `reference pairs SEED COUNT INPUTS EXPECTED [--small]`: the same with COUNT pairs of inputs, one
-//!   behind the other, that are alike but for the employees (`alike` has what that is), so that both
+//!   after the other, that are alike but for the employees (`alike` has what that is), so that both
 //!   get one answer. From 3,000 pairs on it fails if fewer than a sixth of them are accepted, or if
 //!   fewer than 40 numbers of refusals come.
 //! - `reference needed INPUTS EXPECTED`: the same with pairs that lack one thing of being alike, and

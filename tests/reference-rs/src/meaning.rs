@@ -242,7 +242,7 @@ impl Before for ByScanning<'_> {
     }
 }
 
-/// What a scan back from behind a line would give, kept beside the line.
+/// What a scan back from after a line would give, kept beside the line.
 #[derive(Clone, Copy, Default)]
 struct Note {
     /// The place of the last E among the lines.

@@ -185,7 +185,7 @@ fn bytes_between(list: &mut List) {
     let other = (other, refused(2, 10, 291));
     list.add(Hypothesis::Bytes, "no end behind F", one(), other);
     let mut other = office();
-    // An S behind the empty line would not be under the E any more.
+    // An S after the empty line would not be under the E any more.
     other.lines[4].end = b"\n\r".to_vec();
     let other = (other, refused(1, 6, 1));
     list.add(Hypothesis::Bytes, "two ends behind T", one(), other);

@@ -30,7 +30,7 @@ pub fn size(rng: &mut Rng, input: &[u8]) -> usize {
     }
 }
 
-/// The first read ends right behind a CR: an LF behind it belongs to the same line end.
+/// The first read ends right after a CR: an LF after it belongs to the same line end.
 fn up_to_a_return(rng: &mut Rng, input: &[u8]) -> usize {
     let returns: Vec<usize> = (0..input.len()).filter(|p| input[*p] == b'\r').collect();
     match returns.is_empty() {

@@ -284,7 +284,7 @@ fn put_back(reply: Reply, state: &State, words: &mut Words) {
     }
 }
 
-/// A blank behind each number.
+/// A blank after each number.
 fn printed(numbers: &[u64]) -> String {
     numbers.iter().map(|number| format!("{number} ")).collect()
 }
@@ -306,7 +306,7 @@ fn printed_entries(list: &[Entry]) -> String {
     entries.join(",")
 }
 
-/// What the program prints for a whole script. What stands behind the last end is no command.
+/// What the program prints for a whole script. What stands after the last end is no command.
 pub fn run_script(script: &[u8]) -> Result<Vec<u8>, String> {
     let mut program = Program::new();
     let mut output = Vec::new();
@@ -605,7 +605,7 @@ mod tests {
         assert_eq!(printed, wanted);
     }
 
-    /// An E behind 65,535 employers takes the last entry that is used; behind one more there is
+    /// An E after 65,535 employers takes the last entry that is used; after one more there is
     /// none, and two more are too many. Every entry has the FEIN 7.
     #[test]
     fn employers_beyond() {

@@ -251,7 +251,7 @@ impl Script {
         let entries = (0..wanted.list.len()).filter(|p| kept.list[*p] != wanted.list[*p]);
         let (ids, entries): (Vec<usize>, Vec<usize>) = (ids.collect(), entries.collect());
         for k in 0..ids.len().max(entries.len()) {
-            // A place behind the table alters nothing.
+            // A place after the table alters nothing.
             let id_at = ids.get(k).copied().unwrap_or(KEPT.ids);
             let entry_at = entries.get(k).copied().unwrap_or(KEPT.employers);
             self.add(Command::Tables(Alteration {

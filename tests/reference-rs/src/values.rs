@@ -37,7 +37,7 @@ impl Values {
         self.fields.iter().map(entry).collect()
     }
 
-    /// The texts, one behind the other.
+    /// The texts, one after the other.
     pub fn texts(&self) -> Vec<u8> {
         let text = |value: &Value| match value {
             Value::Text(text) => text.clone(),

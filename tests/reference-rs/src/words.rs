@@ -7,7 +7,7 @@ use crate::edits::Refusal;
 use crate::walk::{Format, OpenE, Standing, State, Unused, UnusedOfE};
 
 pub const COUNT: usize = 27;
-/// The place of the format, the first word behind those that a walk over PFML uses.
+/// The place of the format, the first word after those that a walk over PFML uses.
 pub const FORMAT: usize = 17;
 pub type Words = [u64; COUNT];
 

@@ -43,7 +43,7 @@ impl Input {
         self.taken += count;
     }
 
-    /// Reads so many bytes at most behind what is held, which is less than a line with its end. Tells whether there was
+    /// Reads so many bytes at most after what is held, which is less than a line with its end. Tells whether there was
     /// more; none: it failed.
     pub fn read(&mut self, most: usize) -> Option<bool> {
         let left = self.held().len();

@@ -1,4 +1,4 @@
-//! The walk over a file: what is known behind each line.
+//! The walk over a file: what is known after each line.
 
 use crate::bounds::{value, Columns};
 use crate::calendar::Quarter;
@@ -252,7 +252,7 @@ impl Walk {
     }
 }
 
-/// The first 290 bytes, if an end is behind them, and how many bytes they take with it. There may be an end among them.
+/// The first 290 bytes, if an end is after them, and how many bytes they take with it. There may be an end among them.
 fn whole_line(bytes: &[u8]) -> Option<(&Columns, usize)> {
     let (line, behind) = bytes.split_first_chunk()?;
     match behind {

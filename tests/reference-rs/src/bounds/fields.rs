@@ -23,7 +23,7 @@ pub fn add(list: &mut List) {
     accounts(list);
 }
 
-/// Around 666 and 9, around the ends of what the IRS issues behind 9, and what only looks like them.
+/// Around 666 and 9, around the ends of what the IRS issues after 9, and what only looks like them.
 fn identity_prefixes(list: &mut List) {
     let passing = [
         "000000000",
@@ -201,7 +201,7 @@ fn flags(list: &mut List) {
     }
 }
 
-/// 190, with S records behind it and with none.
+/// 190, with S records after it and with none.
 fn flags_that_say_whether_s_follow(list: &mut List) {
     for mark in MARKS {
         for (mut draft, s_follow) in [(example(Q1, Q1), true), (zero_return(Q1, Q1), false)] {

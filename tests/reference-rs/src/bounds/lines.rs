@@ -53,7 +53,7 @@ fn nothing_but_ends(list: &mut List) {
     }
 }
 
-/// Two ends behind A: one end more, or an empty line.
+/// Two ends after A: one end more, or an empty line.
 fn two_ends(list: &mut List) {
     for (ends, meant) in [
         (&b"\r\n"[..], refused(6, 2, 1)),

@@ -26,7 +26,7 @@ pub fn add(list: &mut List) {
     leap_days(list);
 }
 
-/// Every quarter against the last closed one; years 2024, 2025 and 9999, the year beyond, and behind
+/// Every quarter against the last closed one; years 2024, 2025 and 9999, the year beyond, and after
 /// 12 the one beyond that.
 fn quarters_of_a(list: &mut List) {
     for held_year in [2025, 2026, 9998, 9999] {
@@ -45,7 +45,7 @@ fn quarters_of_a(list: &mut List) {
 
 fn refusal_of_a(held: Quarter, year: u64, month: u64) -> Option<Meant> {
     let behind_12 = u64::from(held.month == 12);
-    // How many quarters it is behind the last closed one.
+    // How many quarters it is after the last closed one.
     let steps = (year * 4 + month / 3) as i64 - (held.year * 4 + held.month / 3) as i64;
     if year < 2025 {
         Some(refused(38, 1, 2))
@@ -117,7 +117,7 @@ fn quarters_held(list: &mut List) {
             let good = year >= 2025 && MONTHS.contains(&month);
             let mut draft = zero_return(Quarter::new(year, month), Quarter::new(2025, 3));
             list.add_if(&draft, good, refused(70, 0, 0));
-            // The same without a file behind it.
+            // The same without a file after it.
             draft.lines.clear();
             let meant = match good {
                 true => refused(5, 1, 1),
@@ -175,7 +175,7 @@ fn periods(list: &mut List) {
             draft.lines[place].put_number(first, first + 1, period);
             let refusal = match (period, place) {
                 (3, _) => None,
-                // A is fine, and then the E behind it is not as A.
+                // A is fine, and then the E after it is not as A.
                 (6 | 9 | 12, 0) => Some(refused(43, 2, 188)),
                 (6 | 9 | 12, _) => Some(refused(43, line, first as u64)),
                 _ => Some(refused(40, line, first as u64)),

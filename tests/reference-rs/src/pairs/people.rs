@@ -288,7 +288,7 @@ mod tests {
         let input = input_of(&lines);
         let wanted = (vec![vec![2, 3], vec![], vec![5]], vec![1, 4, 6]);
         assert_eq!(ids_of(&input), wanted);
-        // Small letters, and no end behind the last one.
+        // Small letters, and no end after the last one.
         let mut small = input.to_ascii_lowercase();
         small.pop();
         assert_eq!(ids_of(&small), wanted);

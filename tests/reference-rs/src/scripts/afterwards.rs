@@ -1,4 +1,4 @@
-//! Calls behind a refusal, behind 70, which `formats` has for 73 too, and behind acceptance; and the
+//! Calls after a refusal, after 70, which `formats` has for 73 too, and after acceptance; and the
 //! end in each phase.
 
 use super::calls::again;

@@ -1,5 +1,5 @@
 //! Lines broken in every way: each break of a valid file, in the state that the lines before it
-//! leave; and the calls behind the refusal.
+//! leave; and the calls after the refusal.
 
 use super::moments::{rest_of, walked};
 use super::records::short_line;

@@ -132,7 +132,7 @@ fn texts_for(rng: &mut Rng, field: &Field, own: &[u8]) -> Vec<Vec<u8>> {
         text[rng.end_or_between(1, width) - 1] = *other;
         texts.push(text);
     }
-    // Too long and bad, within the columns and behind them: 85 comes first.
+    // Too long and bad, within the columns and after them: 85 comes first.
     texts.push([&[0x07], &filled(width)[..]].concat());
     texts.push([&filled(width)[..], &[0x07]].concat());
     texts
@@ -171,7 +171,7 @@ fn other_lengths(rng: &mut Rng, script: &mut Script, tidy: &Values) {
     script.lend(Lent::ENOUGH);
 }
 
-/// One text takes more bytes, so that those behind it begin later.
+/// One text takes more bytes, so that those after it begin later.
 fn more_for_one(rng: &mut Rng, tidy: &Values) -> Vec<u64> {
     let places: Vec<usize> = (0..tidy.fields.len())
         .filter(|place| tidy.form(*place) == Form::Text)
@@ -244,7 +244,7 @@ fn rules_of_a() -> Vec<Values> {
     let mut list = with_addresses(&tidy, STATE_OF_A, ZIP_OF_A, EXTENSION_OF_A);
     list.extend(with_quarters(&tidy, YEAR_OF_A, PERIOD_OF_A));
     list.extend(FEINS.map(|fein| tidy.with_number(FEIN_OF_A, fein)));
-    // The first broken field, with another behind it.
+    // The first broken field, with another after it.
     let broken = tidy.with_number(FEIN_OF_A, 690_000_000);
     list.push(broken.with_number(YEAR_OF_A, 2024));
     list.push(broken.with_number(PERIOD_OF_A, 100));

@@ -109,7 +109,7 @@ fn altered(rng: &mut Rng, script: &mut Script) {
     script.frames(rng.pick(&[1, 2, 3, 12]), rng.pick(&[17, 104, 105, 500]));
 }
 
-/// The frames behind a whole file, accepted and refused.
+/// The frames after a whole file, accepted and refused.
 fn whole_files(script: &mut Script) {
     let file = base().file();
     for length in [file.len(), file.len() - 1, 300, 0] {

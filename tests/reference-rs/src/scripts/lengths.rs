@@ -104,7 +104,7 @@ fn beyond_each_phase(scenes: &mut Vec<Scene>) {
     }
 }
 
-/// Each record that may come behind so many employers; 7 is the FEIN of every entry.
+/// Each record that may come after so many employers; 7 is the FEIN of every entry.
 fn employers_beyond(script: &mut Script) {
     let moment = after_t();
     let state = &moment.state;

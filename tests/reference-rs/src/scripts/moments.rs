@@ -31,7 +31,7 @@ pub fn walked(draft: &Draft, lines: usize, room: Room) -> Moment {
     Moment { state, tables }
 }
 
-/// The bytes of a draft behind so many lines.
+/// The bytes of a draft after so many lines.
 pub fn rest_of(draft: &Draft, lines: usize) -> Vec<u8> {
     let file = draft.file();
     let mut rest = &file[..];

@@ -117,7 +117,7 @@ fn any_standing(rng: &mut Rng) -> Standing {
     }
 }
 
-/// The quarter before or behind, the first, the last, or what is none.
+/// The quarter before or after, the first, the last, or what is none.
 fn near_quarter(rng: &mut Rng, own: Quarter) -> Quarter {
     match rng.below(7) {
         0 => Quarter::new(own.year, (own.month + 3).min(99)),

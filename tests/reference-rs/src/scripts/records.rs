@@ -24,7 +24,7 @@ pub fn short_line(rng: &mut Rng) -> &'static [u8] {
     rng.pick(&SHORT)
 }
 
-/// A line that this state mostly takes next, with its end, and at times a byte behind it.
+/// A line that this state mostly takes next, with its end, and at times a byte after it.
 pub fn line_for(rng: &mut Rng, state: &State, tables: &Tables) -> Vec<u8> {
     let letters: &[u8] = match state.standing {
         _ if rng.one_in(12) => b"AESTF",

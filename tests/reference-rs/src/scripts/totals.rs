@@ -116,7 +116,7 @@ fn last_s(script: &mut Script) {
 }
 
 /// One more under an E saying 0, and with no E open: place comes before 61. A full id table, and a
-/// number that repeats, come behind it.
+/// number that repeats, come after it.
 fn last_s_out_of_place(script: &mut Script) {
     set_e_open(script, |state| {
         state.s = 100_000;

@@ -162,7 +162,7 @@ fn quarters_of_a(list: &mut Vec<Alter>) {
     }
 }
 
-/// "72 reads A's quarter likewise": the current quarter and the one behind it, at the end of a year
+/// "72 reads A's quarter likewise": the current quarter and the one after it, at the end of a year
 /// and of the last one.
 fn current_quarters(list: &mut Vec<Alter>) {
     let rows = [
@@ -250,7 +250,7 @@ mod tests {
             "uuf",
             months,
             "u",
-            // The current quarter, and the one behind it.
+            // The current quarter, and the one after it.
             "fu",
             "fu",
             "fu",

@@ -97,7 +97,7 @@ fn wide_numbers(rng: &mut Rng, script: &mut Script, moment: &Moment) {
     }
 }
 
-/// A refusal's words in a walk that has none are not read, and are zeros behind the next call.
+/// A refusal's words in a walk that has none are not read, and are zeros after the next call.
 fn refusal_of_others(rng: &mut Rng, script: &mut Script, moment: &Moment) {
     for number in [1, 9, 44, 70, 71, 72, 73, 300] {
         script.lent = LENT;

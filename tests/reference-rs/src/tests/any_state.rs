@@ -128,7 +128,7 @@ fn line_for(rng: &mut Rng, state: &State) -> Vec<u8> {
     [&line, end].concat()
 }
 
-/// A state and tables, before a call or behind it.
+/// A state and tables, before a call or after it.
 #[derive(Clone, PartialEq)]
 struct Side {
     state: State,

@@ -257,7 +257,7 @@ fn values_come_back() {
     assert_eq!(seen, [32, 33, 35, 36, 37, 38, 40, 44, 47, 50, 51, 52, 85]);
 }
 
-/// In a file with T and F behind it the walk finds no rule broken but those that are its own.
+/// In a file with T and F after it the walk finds no rule broken but those that are its own.
 #[test]
 fn the_walk_accepts_what_is_built() {
     let room = Room {

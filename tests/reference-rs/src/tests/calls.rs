@@ -329,14 +329,14 @@ fn a_total_in_an_altered_walk() {
     );
 }
 
-/// E writes FEIN, 0, 0 behind the employers and opens with no id in use.
+/// E writes FEIN, 0, 0 after the employers and opens with no id in use.
 #[test]
 fn an_employer_in_an_altered_walk() {
     let (mut state, mut ids, mut list) = e_open();
     state.standing = Standing::Among(Phase::AfterT);
     let bytes = with_end(record_e(Q1, 8, false, &AUGUSTA));
     let answer = walk::line(&mut state, &mut ids, &mut list, &bytes);
-    // The entry behind the employers is no earlier E.
+    // The entry after the employers is no earlier E.
     assert_eq!(answer.refusal, None);
     let entry = |fein, count, cents| Entry { fein, count, cents };
     assert_eq!(list, [entry(11, 1, 100), entry(77, 5, 6), entry(8, 0, 0)]);
@@ -348,7 +348,7 @@ fn an_employer_in_an_altered_walk() {
     assert_eq!((state.open, state.employers), (open, 3));
 }
 
-/// S writes one id behind those in use; one of them again is 53, and zeroes all.
+/// S writes one id after those in use; one of them again is 53, and zeroes all.
 #[test]
 fn an_employee_in_an_altered_walk() {
     let (mut state, mut ids, mut list) = e_open();

@@ -38,7 +38,7 @@ fn assert_refused(record: Written, length: usize, number: u8, change: impl Fn(&m
     assert_eq!(slice, slice_of(length));
 }
 
-/// The record begins so, and has blanks behind it.
+/// The record begins so, and has blanks after it.
 fn assert_written(record: Written, start: &str, change: impl Fn(&mut State)) {
     let (mut state, _, _) = e_open();
     if record == Written::F {

@@ -23,19 +23,19 @@ use Rattle.edits.proofs.fields.first_broken.Statement.{statement}
 use Rattle.edits.proofs.fields.first_broken.Tie as tie
 
 abbrev Inv-loop : tie.InvT-loop
-Inv-loop landmarks code around seen line rows rules found₀ k class first last allowed at₀ found at =
+Inv-loop landmarks code here seen line rows rules found₀ k class first last allowed at₀ found at =
     (found ≡ Passed) × (classTest class (capitals line) first last ≡ firstOf (allowedTest allowed (capitals line)) at (last - at))
 
 abbrev μ-loop : tie.MeasureT-loop
-μ-loop landmarks code around seen line rows rules found₀ k class first last allowed at₀ found at = last - at
+μ-loop landmarks code here seen line rows rules found₀ k class first last allowed at₀ found at = last - at
 
 abbrev Inv-fields : tie.InvT-fields
-Inv-fields landmarks code around seen line rows rules found₀ k₀ found k =
-    let a : Around = record { landmarks = landmarks; code = code; here = around; seen = seen } in
+Inv-fields landmarks code here seen line rows rules found₀ k₀ found k =
+    let a : Around = record { landmarks = landmarks; code = code; here = here; seen = seen } in
     (found ≡ Passed) × (fieldsTest a (capitals line) rows rules ≡ firstOf (fieldAt a (capitals line) rows rules) k (length rows - k))
 
 abbrev μ-fields : tie.MeasureT-fields
-μ-fields landmarks code around seen line rows rules found₀ k₀ found k = length rows - k
+μ-fields landmarks code here seen line rows rules found₀ k₀ found k = length rows - k
 
 fields-holds : tie.Need-fields-holds Inv-loop μ-loop Inv-fields μ-fields
 unfolding fieldsTest
@@ -78,7 +78,7 @@ add-k c = let room = c .before .before .before .before .before .before .before .
 
 -- The columns of the field have passed: it says what its rules say.
 rules-say : (c : tie.After-rules-edit Inv-loop μ-loop Inv-fields μ-fields) → let o = c .before .before .before .before .before .before .before .before .before .before .before .before .before in let s = o .before .before .before .args in
-    fieldAt record { landmarks = s .landmarks; code = s .code; here = s .around; seen = s .seen } (capitals (s .line .now)) (s .rows .now) (s .rules .now) (o .fields .k)
+    fieldAt record { landmarks = s .landmarks; code = s .code; here = s .here; seen = s .seen } (capitals (s .line .now)) (s .rows .now) (s .rules .now) (o .fields .k)
     ≡ findingOf (c .rules-edit .result)
 rules-say c =
     let l = c .before .before .before .before in

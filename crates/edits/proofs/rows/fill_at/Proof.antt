@@ -4,7 +4,7 @@ use mathlib.Core.Path.{_≡_, refl, sym, _∙_}
 use lib.ListN.{length, replicate}
 use lib.Seq.{sets}
 use borrow.Author.Needs.{needs}
-use Rattle.text.specs.Put.{putText}
+use Rattle.text.specs.PutLaws.{text-sets}
 use Rattle.edits.specs.FieldRowLaws.{fill-done, fill-past, fill-more}
 use Rattle.edits.proofs.rows.fill_at.Statement.{statement}
 use Rattle.edits.proofs.rows.fill_at.Tie as tie
@@ -19,12 +19,10 @@ again : tie.Need-loop-again Inv μ
 again c = (search needs, c .before .before .loop .inv .1 ∙ fill-more _ _ _ _ (c .before .loop-test .taken))
 
 past : tie.Need-returns Inv μ
-unfolding putText
-past c = sym (rw (← c .before .before .before .index-of .ensures) (c .before .before .loop .inv .1 ∙ fill-past _ _ _ _ (c .if1 .taken)))
+past c = sym (text-sets _ _ _ ∙ rw (← c .before .before .before .index-of .ensures) (c .before .before .loop .inv .1 ∙ fill-past _ _ _ _ (c .if1 .taken)))
 
 returns : tie.Need-returns-2 Inv μ
-unfolding putText
-returns c = sym (rw (← c .before .before .index-of .ensures) (c .before .loop .inv .1 ∙ fill-done _ _ _ _ (c .loop-test .left)))
+returns c = sym (text-sets _ _ _ ∙ rw (← c .before .before .index-of .ensures) (c .before .loop .inv .1 ∙ fill-done _ _ _ _ (c .loop-test .left)))
 
 pub fill-at-spec : {M : Type 1} → statement M
 fill-at-spec =
