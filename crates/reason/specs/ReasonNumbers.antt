@@ -119,7 +119,7 @@ notice number line column = record { number = number; line = line; column = colu
 abbrev pub noticeOf : Refusal → Notice
 noticeOf refusal = notice (numberOf (refusal .reason)) (refusal .line) (refusal .column)
 
--- "1 to 8, 10 to 20, 30 to 65, 70 to 72, 80 to 85": count numbers from first on.
+-- "1 to 8, 10 to 20, 30 to 65, 70 to 73, 80 to 85": count numbers from first on.
 abbrev from : ℕ → ℕ → List ℕ
 from first zero = []
 from first (suc count) = first ∷ from (suc first) count
