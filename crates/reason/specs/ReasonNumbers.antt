@@ -119,10 +119,11 @@ notice number line column = record { number = number; line = line; column = colu
 abbrev pub noticeOf : Refusal → Notice
 noticeOf refusal = notice (numberOf (refusal .reason)) (refusal .line) (refusal .column)
 
--- "1 to 8, 10 to 20, 30 to 65, 70 to 73, 80 to 85": count numbers from first on.
+-- So many numbers from the first on.
 abbrev from : ℕ → ℕ → List ℕ
 from first zero = []
 from first (suc count) = first ∷ from (suc first) count
 
+-- The numbers that a reason has: 1 to 8, 10 to 20, 30 to 65, 70 to 73, 80 to 85.
 unfoldable pub listed : List ℕ
 listed = from 1 8 ++ from 10 11 ++ from 30 36 ++ from 70 4 ++ from 80 6
