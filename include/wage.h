@@ -31,18 +31,21 @@ extern "C" {
 /* The version of what is declared here. A program compares it with what the library says of
  * itself before it makes any other call: the words of the state and the entries of the list
  * change from version to version. */
-#define WAGE_ABI_VERSION 1
+#define WAGE_ABI_VERSION 2
 uint64_t wage_abi_version(void);
 
 /* A stack of so many bytes is enough for every call, also where a thread has no more than that
  * in all. */
 #define WAGE_STACK_BYTES 65536
 
-/* An entry of the employer list: 24 bytes, three numbers in this order and no padding. */
+/* An entry of the employer list: 48 bytes, six numbers in this order and no padding. */
 typedef struct wage_employer {
     uint64_t fein;
-    uint64_t count; /* S records */
-    uint64_t cents; /* their wages */
+    uint64_t count;        /* S records */
+    uint64_t cents;        /* their wages */
+    uint64_t amended;      /* 1 if the return is amended, else 0 */
+    uint64_t final_return; /* 1 if it is final, else 0 */
+    uint64_t cease_date;   /* of a final return the day, MMDDYYYY as a number; else 0 */
 } wage_employer;
 
 /* The format of a file, by the number that it is given at opening. Another number names no
@@ -142,9 +145,10 @@ enum {
 /* The tables. `ids` has room for the identity numbers under one employer (a zero one takes
  * none), `list` for the employers of the file: at most 65,536 are taken. No room for one more is
  * refusal 62 or 63. A call may be lent tables of another length than the call before, as long as
- * they hold what is in use (else 72); their content is the caller's to keep. A refusal from 1 to
- * 65 zeroes every entry of both, again with each later line or end call; after acceptance `list`
- * holds the employers in file order, then zeros, and `ids` zeros. */
+ * they hold what is in use (else 72); their content is the caller's to keep. An E record sets all
+ * six numbers of its entry, count and cents to zero; T sets these two. A refusal from 1 to 65
+ * zeroes every entry of both tables, again with each later line or end call; after acceptance
+ * `list` holds the employers in file order, then zeros, and `ids` zeros. */
 
 /* Opens a walk over a file of this format for the last closed quarter, year 2025 to 9999 and
  * month 3, 6, 9 or 12: zeroes both tables and fills the state. In this order: 72 for fewer than
@@ -285,15 +289,16 @@ uint64_t wage_field_text(uint8_t letter, size_t field, const uint8_t *line, size
 uint64_t wage_field_first(uint8_t letter, size_t field);
 
 /* Writes the acknowledgement of a walk that has ended, by acceptance or by refusal, to the front
- * of `out`; bytes after it stay. It is lines of hexadecimal, each with LF: 35 bytes for each
+ * of `out`; bytes after it stay. It is lines of hexadecimal, each with LF: 47 bytes for each
  * employer and 35 more; 17 bytes for a refusal. The return value tells whether it was written,
  * not whether the file was accepted: that is WAGE_STANDING. In this order: 72, which compares
  * the list alone; 87 if the walk has not ended; 88 if `out` is too small. `out` is then
  * untouched.
  *
- * A frame has 4 bytes for the FEIN and 4 for the count. Those of a file fit; of a larger one,
- * which only the caller can have put into the list, the low 4 bytes are written. */
-#define WAGE_FRAMES_BYTES(employers) (35 * ((size_t)(employers) + 1))
+ * An employer's frame has 4 bytes for the FEIN, 4 for the count, 8 for the cents, 1 for each of
+ * the two flags and 4 for the date. The numbers of a file fit; of a larger one, which only the
+ * caller can have put into the list, the low bytes are written. */
+#define WAGE_FRAMES_BYTES(employers) (47 * (size_t)(employers) + 35)
 uint64_t wage_frames(const uint64_t *state, size_t state_length, const wage_employer *list, size_t list_length, uint8_t *out, size_t out_length,
                      uint64_t *answer, size_t answer_length);
 

@@ -25,7 +25,8 @@ REFERENCE_FILES = 2000
 
 # What examples/c/write_file.c writes, by the letters of its records, and the frames of it.
 WRITTEN = [b"A", b"E", b"S", b"S", b"T", b"E", b"T", b"F"]
-WRITTEN_FRAMES = b"0100BC614E00000002000000000001E26C\n0129B92700000000000000000000000000\n000000000200000002000000000001E26C\n"
+WRITTEN_FRAMES = (b"0200BC614E00000002000000000001E26C000000000000\n0229B92700000000000000000000000000000000000000\n"
+                  b"000000000200000002000000000001E26C\n")
 # What wage.h says of the stack: of wage_whole, and of every other export.
 WHOLE_STACK, CALL_STACK = 65536, 4096
 # The classes of fields that are given as texts, and those that no caller gives.

@@ -1,6 +1,6 @@
 """The exports for C and Rust over the walk of `walk_reference`: the state as words, the writing of T and F, the frames.
 
-Written from document 01, include/wage.h and docs/DECISIONS.md; it shares nothing with the product.
+Written from document 01, document 02 (xiii), include/wage.h and docs/DECISIONS.md; it shares nothing with the product.
 """
 import walk_reference as walk
 from walk_reference import ACCEPTED, AFTER_T, E_OPEN, NO_FORMAT, PFML, REFUSED, Reply, State
@@ -11,6 +11,8 @@ FORMAT = 17
 # the numbers of refusals in the papers, 73, 84 and 85 those of document 02
 LISTED = {*range(1, 9), *range(10, 21), *range(30, 66), *range(70, 74), *range(80, 86)}
 MOST_LINE, MOST_COLUMN = 2**32 - 1, 2**16 - 1
+# of an entry's six numbers in its frame
+ENTRY_BYTES = (4, 4, 8, 1, 1, 4)
 UNFIT = State(stage=REFUSED, number=72)
 
 
@@ -68,7 +70,7 @@ def frame(kind, *numbers):
 def frames_of(st, entries):
     if st.stage == REFUSED:
         return frame(255, (st.number, 1), (st.line, 4), (st.column, 2))
-    told = "".join(frame(1, (fein, 4), (count, 4), (cents, 8)) for fein, count, cents in entries[:st.employers])
+    told = "".join(frame(2, *zip(entry, ENTRY_BYTES)) for entry in entries[:st.employers])
     return told + frame(0, (st.all_count, 4), (st.employers, 4), (st.all_sum, 8))
 
 

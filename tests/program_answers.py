@@ -21,9 +21,9 @@ QUARTER = "202606"
 # The examples of the current quarter: the last closed one is the quarter before theirs.
 EARLIER = {"accepted-closing-this-quarter": "202603", "refused-65-not-final": "202603"}
 
-# The two answers that the specification prints.
+# The two answers that the specification prints, the first with the employer frame of document 02 (xiii).
 PRINTED = {
-    "accepted-one-employer": b"0100BC614E00000002000000000001E26C\n000000000200000001000000000001E26C\n",
+    "accepted-one-employer": b"0200BC614E00000002000000000001E26C000000000000\n000000000200000001000000000001E26C\n",
     "refused-52-identity-number": b"FF34000000030002\n",
 }
 # The program's answer to a header that is no quarter.
@@ -228,7 +228,7 @@ def many_employees(count):
     employee = s[:1] + b"000000000" + s[10:63] + b"%014d" % 1 + s[77:]
     total = t[:1] + b"%07d" % count + t[8:26] + b"%014d" % count + t[40:]
     final = f[:1] + b"%010d" % count + f[11:40] + b"%015d" % count + f[55:]
-    frames = b"0100BC614E%08X%016X\n00%08X00000001%016X\n" % (count, count, count, count)
+    frames = b"0200BC614E%08X%016X000000000000\n00%08X00000001%016X\n" % (count, count, count, count)
     return b"\n".join([a, e, *[employee] * count, total, final, b""]), frames
 
 

@@ -18,7 +18,7 @@ import walk_reference as walk
 from walk_reference import ACCEPTED, AFTER_A, AFTER_F, AFTER_T, BEFORE_A, E_OPEN, MOST_WAGES, NO_ENTRY, NO_FORMAT, PFML, REFUSED, Reply, State
 
 # the script's length
-ROOM = 200000
+ROOM = 250000
 IDS, ENTRIES = 40, 12
 LONG = 65540
 # what is told for a word of the answer that is not lent
@@ -30,12 +30,13 @@ NUMBERS = (1, 44, 63, 64, 65, 70, 71, 72, 73, 80, 83)
 # the digit columns of each command, by their widths, in order from the second character on
 STATE = (("stage", 1), ("number", 2), ("line", 10), ("column", 5), ("lines", 10), ("held_year", 5), ("held_month", 2), ("filed_year", 5),
          ("filed_month", 2), ("fein", 10), ("follow", 1), ("count", 10), ("sum", 19), ("all_count", 10), ("employers", 10), ("all_sum", 19), ("used", 10))
+ENTRY = (("fein", 10), ("count", 10), ("cents", 19), ("amended", 10), ("final", 10), ("date", 10))
 LENT = (("ids", 2), ("entries", 2))
 OPENING = (("format", 20), ("year", 5), ("month", 2), *LENT)
 COMMANDS = {
     "O": OPENING, "L": LENT, "E": LENT, "W": OPENING, "S": STATE, "X": (("more", 1),),
-    "T": (("at", 2), ("id", 10), ("place", 2), ("fein", 10), ("count", 10), ("cents", 19)), "N": (("at", 2), ("number", 20)),
-    "K": (("words", 2), ("answer", 1)), "F": (("entries", 2), ("length", 3)), "RT": (("length", 3),), "RF": (("length", 3),),
+    "T": (("at", 2), ("id", 10), ("place", 2), *ENTRY), "N": (("at", 2), ("number", 20)), "K": (("words", 2), ("answer", 1)),
+    "F": (("entries", 2), ("length", 3)), "RT": (("length", 3),), "RF": (("length", 3),),
 }
 
 
@@ -74,7 +75,7 @@ def told_ids(ids):
 
 
 def told_entries(entries):
-    return "|" + ",".join("%d:%d:%d" % entry for entry in trimmed(entries, NO_ENTRY))
+    return "|" + ",".join("%d:%d:%d:%d:%d:%d" % entry for entry in trimmed(entries, NO_ENTRY))
 
 
 class Program:
@@ -117,10 +118,10 @@ class Program:
         if g["at"] < IDS:
             self.ids[g["at"]] = g["id"]
         if g["place"] < ENTRIES:
-            self.entries[g["place"]] = (g["fein"], g["count"], g["cents"])
+            self.entries[g["place"]] = tuple(g[name] for name, _ in ENTRY)
 
     def beyond(self, more, data):
-        ids, entries = [0] * IDS, [(7, 8, 9)] * LONG
+        ids, entries = [0] * IDS, [(7, 8, 9, 10, 11, 12)] * LONG
         words = list(self.words)
         words[exports.EMPLOYERS] = 65535 + min(more, 2)
         reply, words = self.called(words, lambda st: walk.line_call(st, data, ids, entries))
@@ -213,7 +214,7 @@ class Script:
         self.add("X", data, more=more)
 
     def table(self, at, identity, place, entry):
-        self.add("T", at=at, id=identity, place=place, fein=entry[0], count=entry[1], cents=entry[2])
+        self.add("T", at=at, id=identity, place=place, **{name: number for (name, _), number in zip(ENTRY, entry, strict=True)})
 
     def word(self, at, number):
         self.add("N", at=at, number=number)
@@ -251,8 +252,8 @@ def a_record(quarter=QUARTER):
     return filled("A", (2, "%04d" % quarter[0]), (6, "012345678"), (15, "PFML"), (19, "%02d" % quarter[1]), *ADDRESS, (164, "JO"), (194, "2075551212"))
 
 
-def e_record(fein=FEIN, follow=1, quarter=QUARTER, closure="000000000"):
-    flags = "0%02d%d%s" % (quarter[1], follow, "0" if quarter[1] == 9 else " ")
+def e_record(fein=FEIN, follow=1, quarter=QUARTER, closure="000000000", amended=0):
+    flags = "%d%02d%d%s" % (amended, quarter[1], follow, "0" if quarter[1] == 9 else " ")
     return filled("E", (2, "%04d" % quarter[0]), (6, "%09d" % fein), *ADDRESS, (167, "PFML"), (187, flags), (201, "JO"), (231, "A@B"), (261, "2075551212"),
                   (282, closure))
 
@@ -270,6 +271,9 @@ def f_record(count, employers, cents):
     return filled("F", (2, "%010d" % count), (12, "%010d" % employers), (22, "PFML"), (41, "%015d" % cents))
 
 
+TWO = (s_record(111111111, 123456), s_record(0, 44))
+
+
 def joined(*texts):
     return "".join(text + "\n" for text in texts)
 
@@ -284,8 +288,8 @@ def standing(stage, **changes):
 
 def content(w):
     """Two entries in each table, as no walk leaves them."""
-    w.table(0, 111111111, 0, (FEIN, 0, 0))
-    w.table(1, 222222222, 1, (7, 8, 9))
+    w.table(0, 111111111, 0, (FEIN, 0, 0, 1, 0, 0))
+    w.table(1, 222222222, 1, (7, 8, 9, 10, 11, 12))
 
 
 # The cases, by subject.
@@ -481,7 +485,7 @@ def nine_zeros(w):
     content(w)
     w.end()
     for employers, fein in ((2, 0), (2, 7), (1, 1)):
-        w.table(0, 111111111, 0, (0, 0, 0))
+        w.table(0, 111111111, 0, NO_ENTRY)
         w.state(standing(AFTER_T, employers=employers))
         w.lines(e_record(fein))
     w.state(standing(E_OPEN))
@@ -519,6 +523,34 @@ def closing(w):
         w.whole(held, joined(a_record(quarter)))
 
 
+# Each kind of return: the amended flag, and the final flag and date of a day in QUARTER.
+KINDS = tuple((amended, closure) for amended in (0, 1) for closure in ("000000000", "101012026", "103312026"))
+
+
+def kinds(w):
+    """Returns of each kind: the entry after E, S and T, and the frames; an entry with content under an E and under a T; a refusal after each."""
+    w.lent = (2, 3)
+    for amended, closure in KINDS:
+        e = e_record(closure=closure, amended=amended)
+        content(w)
+        w.open(HELD)
+        w.lines(a_record(), e, *TWO, t_record(2, 123500), f_record(2, 1, 123500))
+        w.end()
+        w.frames(1, 82)
+        w.frames(1, 81)
+        content(w)
+        w.state(standing(AFTER_T, employers=1))
+        w.lines(e_record(5, 0, closure=closure, amended=amended), t_record(0, 0, 5), f_record(2, 2, 300))
+        w.end()
+        w.frames(2, 129)
+        w.whole(HELD, joined(a_record(), e, *TWO, t_record(2, 123500), e_record(7, 0, amended=1 - amended), t_record(0, 0, 7), f_record(2, 2, 123500)))
+        w.frames(3, 129)
+    for flag, closure in (("2", "000000000"), ("1", "003312026"), ("1", "100000000"), ("0", "102302026"), ("1", "104012026")):
+        content(w)
+        w.state(standing(AFTER_T))
+        w.lines(records.put(e_record(5, closure=closure), 187, flag))
+
+
 def totals(w):
     """T against the S records, F against the file; never against the list."""
     w.lent = (2, 2)
@@ -528,7 +560,7 @@ def totals(w):
         w.state(standing(E_OPEN, **changes))
         w.lines(t_record(count, cents))
     content(w)
-    w.table(1, 0, 1, (7, 8, 291))
+    w.table(1, 0, 1, (7, 8, 291, 1, 1, 3312026))
     for count, employers, cents in ((2, 1, 300), (8, 1, 300), (2, 2, 300), (2, 1, 291)):
         w.state(standing(AFTER_T))
         w.lines(f_record(count, employers, cents))
@@ -560,7 +592,7 @@ def altered(w):
         w.state(standing(stage, **wild))
         w.lines(text)
     content(w)
-    w.table(2, 333333333, 2, (1, 1, 1))
+    w.table(2, 333333333, 2, (1, 1, 1, 1, 1, 1))
     w.state(standing(E_OPEN, employers=2))
     w.lent = (40, 12)
     w.lines(s_record(333333333, 5), s_record(0, 6), t_record(3, 111))
@@ -590,7 +622,7 @@ def other_lengths(w):
 
 
 def beyond(w):
-    """More than 65,536 entries, each 7, 8, 9: the last one used, none left, one too many; a FEIN on an earlier E; any other refusal."""
+    """More than 65,536 entries, each 7 to 12: the last one used, none left, one too many; a FEIN on an earlier E; any other refusal."""
     w.state(standing(AFTER_T))
     for more in range(3):
         w.beyond(more, e_record() + "\n")
@@ -614,7 +646,7 @@ def no_walks(w):
             w.lines(t_record(1, 100))
             w.end()
             w.record("T")
-            w.frames(3, 70)
+            w.frames(3, 82)
 
 
 def odd_words(w):
@@ -712,7 +744,7 @@ def formats_kept(w):
             w.word(exports.FORMAT, named)
             w.line("")
             w.end()
-            w.frames(3, 70)
+            w.frames(3, 82)
             w.record("F" if st.stage == AFTER_T else "T")
         if st.stage in takes:
             w.lines(takes[st.stage])
@@ -748,7 +780,7 @@ def unused(w):
             content(w)
             w.state(standing(stage, **values))
             w.record("F" if stage == AFTER_T else "T")
-            w.frames(3, 70)
+            w.frames(3, 82)
             w.line("")
             w.end()
             w.state(standing(stage, **values))
@@ -796,7 +828,7 @@ def lent_short(w):
         w.open(HELD)
         w.open((2026, 5))
         w.whole(HELD, good)
-        w.frames(2, 70)
+        w.frames(2, 82)
     w.lending()
 
 
@@ -805,11 +837,12 @@ def frames(w):
     content(w)
     for stage in (BEFORE_A, AFTER_A, E_OPEN, AFTER_T, AFTER_F, ACCEPTED, REFUSED):
         w.state(standing(stage))
-        for entries, length in ((0, 70), (1, 0), (1, 16), (1, 17), (1, 69), (1, 70), (2, 71)):
+        for entries, length in ((0, 82), (1, 0), (1, 16), (1, 17), (1, 81), (1, 82), (2, 83)):
             w.frames(entries, length)
-    w.table(0, 0, 1, (9999999999, 2**32 + 8, 9999999999999999999))
     w.state(standing(ACCEPTED, employers=2, all_count=100000, all_sum=100000 * MOST_WAGES, used=9999999999))
-    w.frames(2, 105)
+    for amended, final, date in ((0, 1, 12319999), (255, 256, 2**32 - 1), (257, 9999999999, 2**32), (9999999999, 511, 9999999999)):
+        w.table(0, 0, 1, (9999999999, 2**32 + 8, 9999999999999999999, amended, final, date))
+        w.frames(2, 129)
     w.state(standing(ACCEPTED, employers=0, all_count=0, all_sum=0))
     w.frames(0, 35)
     w.frames(0, 34)
@@ -835,8 +868,8 @@ def written(w):
         w.lines(exports.write_call(letter, w.program.st, 290)[1])
 
 
-HAND = (accepted, in_one_slice, line_ends, afterwards, ends, bounds, no_bounds, room, nine_zeros, closing, totals, at_the_bounds, altered, other_lengths, beyond, no_walks,
-        odd_words, lent_short, frames, written, seventy_again, formats, formats_kept, unused)
+HAND = (accepted, in_one_slice, line_ends, afterwards, ends, bounds, no_bounds, room, nine_zeros, closing, kinds, totals, at_the_bounds, altered, other_lengths, beyond,
+        no_walks, odd_words, lent_short, frames, written, seventy_again, formats, formats_kept, unused)
 
 
 # Calls by chance.
@@ -854,6 +887,8 @@ def chance_record(letter, st, pick):
     text = records.good_record(letter, c, pick)
     if letter == "E" and pick.random() < 0.2:
         text = records.put(text, 190, "0")
+    if letter == "E" and pick.random() < 0.3:
+        text = records.put(text, 187, "1")
     if letter == "S":
         text = records.put(text, 2, "%09d" % pick.choice((0, 111111111, 222222222, 333333333, 665999999)))
     if letter == "S" and pick.random() < 0.2:
@@ -903,6 +938,9 @@ def chance_lent(pick):
     return (pick.choice((0, 1, 2, 3, 4, 40)), pick.choice((0, 1, 2, 3, 12)))
 
 
+CHANCE_ENTRIES = (NO_ENTRY, (5, 1, 2, 0, 0, 0), (FEIN, 3, 4, 1, 1, 3312026), (0, 0, 0, 2, 256, 2**32))
+
+
 def chance_walk(w, pick):
     w.lent = pick.choice(((3, 2), (3, 2), (3, 2), chance_lent(pick)))
     w.open(pick.choice((HELD, HELD, chance_quarter(pick))), pick.choice((PFML,) * 30 + OTHERS))
@@ -916,9 +954,9 @@ def chance_walk(w, pick):
         elif way < 0.11:
             w.state(chance_state(st if can_be_told(st) else standing(E_OPEN), pick))
         elif way < 0.12:
-            w.frames(pick.randrange(4), pick.choice((17, 70, 105)))
+            w.frames(pick.randrange(4), pick.choice((17, 82, 129)))
         elif way < 0.15:
-            w.table(pick.randrange(5), pick.choice((0, 111111111, 222222222, 4294967295)), pick.randrange(4), pick.choice(((0, 0, 0), (5, 1, 2), (FEIN, 3, 4))))
+            w.table(pick.randrange(5), pick.choice((0, 111111111, 222222222, 4294967295)), pick.randrange(4), pick.choice(CHANCE_ENTRIES))
         elif way < 0.18 or (st.stage == AFTER_F and way < 0.8):
             w.end()
         elif st.stage >= ACCEPTED:
@@ -946,11 +984,15 @@ def made(seed, hand):
 # The reference against results found by hand from the paper, and against itself.
 
 GOOD = (0, 0, 0, 0)
+# an entry as no walk leaves one
+NINES = (9,) * 6
+# the flags and date of a return that is neither amended nor final
+PLAIN = (0, 0, 0)
 
 
 def tried(data, ids=2, entries=2):
     """What a file in one slice leaves of tables with content: the reply, the stage and both tables."""
-    ids, entries = [9] * ids, [(9, 9, 9)] * entries
+    ids, entries = [9] * ids, [NINES] * entries
     st, reply = walk.whole_call(PFML, HELD, data, ids, entries)
     return tuple(reply), st.stage, ids, entries
 
@@ -964,7 +1006,7 @@ def replies(*files):
 
 
 def tables_behind(*texts):
-    ids, entries = [9] * 3, [(9, 9, 9)] * 2
+    ids, entries = [9] * 3, [NINES] * 2
     st, _ = walk.open_walk(PFML, HELD, ids, entries)
     for text in texts:
         st, _ = walk.line_call(st, text + "\n", ids, entries)
@@ -972,7 +1014,7 @@ def tables_behind(*texts):
 
 
 def refused_at_opening(named, held):
-    ids, entries = [9], [(9, 9, 9)]
+    ids, entries = [9], [NINES]
     st, first = walk.open_walk(named, held, ids, entries)
     st, second = walk.line_call(st, "", ids, entries)
     st, third = walk.end_call(st, ids, entries)
@@ -980,7 +1022,6 @@ def refused_at_opening(named, held):
 
 
 A, E, E0, T0, F0 = a_record(), e_record(), e_record(FEIN, 0), t_record(0, 0), f_record(0, 1, 0)
-TWO = (s_record(111111111, 123456), s_record(0, 44))
 EXAMPLE = (A, E, *TWO, t_record(2, 123500), f_record(2, 1, 123500))
 
 
@@ -995,25 +1036,58 @@ def files_by_hand():
         ("c. 291 characters", tried(A + " \n"), refused(1, 1, 291)),
         ("d. LF CR after a record", tried(A + "\n\r"), refused(1, 2, 1)),
         ("the last line has no end", tried(A), refused(2, 1, 291)),
-        ("the example", tried(joined(*EXAMPLE)), (GOOD, ACCEPTED, [0, 0], [(FEIN, 2, 123500), NO_ENTRY])),
-        ("the example in small letters", tried(small), (GOOD, ACCEPTED, [0, 0], [(FEIN, 2, 123500), NO_ENTRY])),
+        ("the example", tried(joined(*EXAMPLE)), (GOOD, ACCEPTED, [0, 0], [(FEIN, 2, 123500, *PLAIN), NO_ENTRY])),
+        ("the example in small letters", tried(small), (GOOD, ACCEPTED, [0, 0], [(FEIN, 2, 123500, *PLAIN), NO_ENTRY])),
         ("reason 52 at line 3, column 2", tried(joined(A, E, s_record(666000001, 1))), refused(52, 3, 2)),
         ("an ITIN takes room and repeats as another number", replies(*[(A, E, s_record(900500000, 1), s_record(n, 1)) for n in (900500000, 999999999, 999930000)]),
          [(53, 4, 2, 0), (7, 5, 1, 0), (52, 4, 2, 0)]),
         ("g. FEIN 690000000", tried(joined(A, e_record(690000000))), refused(44, 2, 6)),
         ("a FEIN of nine zeros in A", tried(joined(records.put(A, 6, "000000000"), E)), refused(64, 1, 6)),
         ("a FEIN of nine zeros in E, and no list", tried(joined(A, e_record(0)), 2, 0), refused(64, 2, 6, 2, 0)),
-        ("FEIN 000000001", tried(joined(A, e_record(1, 0), t_record(0, 0, 1), F0)), (GOOD, ACCEPTED, [0, 0], [(1, 0, 0), NO_ENTRY])),
+        ("FEIN 000000001", tried(joined(A, e_record(1, 0), t_record(0, 0, 1), F0)), (GOOD, ACCEPTED, [0, 0], [(1, 0, 0, *PLAIN), NO_ENTRY])),
         ("nine zeros in S and in T", replies((A, E, s_record(5, 1, 0)), (A, E, *TWO, t_record(2, 123500, 0))), [(46, 3, 147, 0), (46, 5, 13, 0)]),
-        ("a closing employer", tried(joined(*shut)), (GOOD, ACCEPTED, [0, 0], [(FEIN, 1, 9), NO_ENTRY])),
+        ("a closing employer", tried(joined(*shut)), (GOOD, ACCEPTED, [0, 0], [(FEIN, 1, 9, 0, 1, 8312026), NO_ENTRY])),
         ("an employer that does not close", tried(joined(shut[0], e_record(quarter=CURRENT))), refused(65, 2, 282)),
         ("a closed quarter, final or not", replies((a_record(HELD), e_record(quarter=HELD)), (a_record(HELD), e_record(quarter=HELD, closure="106302026"))),
          [(7, 3, 1, 0)] * 2),
         ("the quarter and the year after the current one", replies((a_record((2026, 12)),), (a_record((2027, 3)),)), [(41, 1, 19, 0), (39, 1, 2, 0)]),
-        ("one person, two employers", tried(joined(*two), 1), (GOOD, ACCEPTED, [0], [(FEIN, 1, 1), (7, 1, 2)])),
+        ("one person, two employers", tried(joined(*two), 1), (GOOD, ACCEPTED, [0], [(FEIN, 1, 1, *PLAIN), (7, 1, 2, *PLAIN)])),
         ("i. zero twice, and no room", tried(joined(A, E, s_record(0, 1), s_record(0, 1), t_record(2, 2), f_record(2, 1, 2)), 0),
-         (GOOD, ACCEPTED, [], [(FEIN, 2, 2), NO_ENTRY])),
-        ("zero returns only", tried(joined(A, E0, T0, F0)), (GOOD, ACCEPTED, [0, 0], [(FEIN, 0, 0), NO_ENTRY])),
+         (GOOD, ACCEPTED, [], [(FEIN, 2, 2, *PLAIN), NO_ENTRY])),
+        ("zero returns only", tried(joined(A, E0, T0, F0)), (GOOD, ACCEPTED, [0, 0], [(FEIN, 0, 0, *PLAIN), NO_ENTRY])),
+    )
+
+
+def example_of(quarter, **kind):
+    """The lines of the paper's example in another quarter, its return of some kind."""
+    return (a_record(quarter), e_record(quarter=quarter, **kind), s_record(111223333, 123456, quarter=quarter), s_record(0, 44, quarter=quarter), t_record(2, 123500))
+
+
+def frames_of_file(held, *texts):
+    """The frames of a file in one slice."""
+    ids, entries = [9] * 3, [NINES] * 2
+    st, _ = walk.whole_call(PFML, held, joined(*texts), ids, entries)
+    return exports.frames_of(st, entries).splitlines()
+
+
+def kinds_by_hand():
+    """The same for the kinds of return: the entries and frames of document 02 (xiii)."""
+    one, final_june, december = f_record(2, 1, 123500), "106302026", (2026, 12)
+    second = (e_record(700000000, 1, HELD, final_june), *(s_record(identity, wages, 700000000, HELD) for identity, wages in (
+        (111223333, 845000), (223445555, 1310075), (334556666, 99990))), t_record(3, 2255065, 700000000))
+    d = (*example_of(HELD), *second, f_record(5, 2, 2378565))
+    first, b = (FEIN, 2, 123500, *PLAIN), "0200BC614E00000002000000000001E26C"
+    zero = (a_record(HELD), e_record(FEIN, 0, HELD, final_june), T0, F0)
+    return (
+        ("B", frames_of_file(HELD, *example_of(HELD), one)[0], b + "000000000000"),
+        ("B amended", frames_of_file(HELD, *example_of(HELD, amended=1), one)[0], b + "010000000000"),
+        ("B final, held 202603", frames_of_file(QUARTER, *example_of(HELD, closure="105152026"), one)[0], b + "0001004E9D1A"),
+        ("D", frames_of_file(HELD, *d), [b + "000000000000", "0229B927000000000300000000002268D900010060294A", "0000000005000000020000000000244B45"]),
+        ("amended and final", frames_of_file(december, *example_of(december, closure="112312026", amended=1), one)[0], b + "010100BBDDDA"),
+        ("a zero return, final", frames_of_file(HELD, *zero)[0], "0200BC614E00000000000000000000000000010060294A"),
+        ("right after E of D's second employer", tables_behind(*d[:6]), ([0, 0, 0], [first, (700000000, 0, 0, 0, 1, 6302026)])),
+        ("D", tables_behind(*d), ([0, 0, 0], [first, (700000000, 3, 2255065, 0, 1, 6302026)])),
+        ("D, refused at its second T", tables_behind(*d[:9], t_record(3, 1, 700000000)), ([0, 0, 0], [NO_ENTRY] * 2)),
     )
 
 
@@ -1034,11 +1108,11 @@ def rules_by_hand():
         ("F's three", replies(*f_wrong), [(58, 6, 2, 0), (59, 6, 12, 0), (60, 6, 41, 0)]),
         ("after F", replies(*[(A, E0, T0, F0, text) for text in (A, E, five, T0, F0)]), [(n, 5, 1, 0) for n in (11, 20, 20, 20, 19)]),
         ("the file ends early", replies((A,), (A, E), EXAMPLE[:4], EXAMPLE[:5]), [(6, 2, 1, 0), (7, 3, 1, 0), (7, 5, 1, 0), (8, 6, 1, 0)]),
-        ("tables under an E", tables_behind(A, E, s_record(8, 1), s_record(0, 1), s_record(7, 1)), ([8, 7, 0], [(FEIN, 0, 0), NO_ENTRY])),
-        ("tables after a T", tables_behind(A, E, s_record(8, 1), t_record(1, 1)), ([0, 0, 0], [(FEIN, 1, 1), NO_ENTRY])),
-        ("a bad quarter, a line and the end", refused_at_opening(PFML, (2026, 7)), ([(70, 0, 0, 0)] * 3, State(stage=REFUSED, number=70), [9], [(9, 9, 9)])),
-        ("no format, a line and the end", refused_at_opening(9, (2025, 9)), ([(73, 0, 0, 0)] * 3, State(stage=REFUSED, number=73, format=NO_FORMAT), [9], [(9, 9, 9)])),
-        ("no format, and a bad quarter", refused_at_opening(9, (2025, 5)), ([(70, 0, 0, 0)] * 3, State(stage=REFUSED, number=70, format=NO_FORMAT), [9], [(9, 9, 9)])),
+        ("tables under an E", tables_behind(A, E, s_record(8, 1), s_record(0, 1), s_record(7, 1)), ([8, 7, 0], [(FEIN, 0, 0, *PLAIN), NO_ENTRY])),
+        ("tables after a T", tables_behind(A, E, s_record(8, 1), t_record(1, 1)), ([0, 0, 0], [(FEIN, 1, 1, *PLAIN), NO_ENTRY])),
+        ("a bad quarter, a line and the end", refused_at_opening(PFML, (2026, 7)), ([(70, 0, 0, 0)] * 3, State(stage=REFUSED, number=70), [9], [NINES])),
+        ("no format, a line and the end", refused_at_opening(9, (2025, 9)), ([(73, 0, 0, 0)] * 3, State(stage=REFUSED, number=73, format=NO_FORMAT), [9], [NINES])),
+        ("no format, and a bad quarter", refused_at_opening(9, (2025, 5)), ([(70, 0, 0, 0)] * 3, State(stage=REFUSED, number=70, format=NO_FORMAT), [9], [NINES])),
     )
 
 
@@ -1065,14 +1139,15 @@ def exports_by_hand():
     none_73 = [6, 73, 0, 0] + [0] * 13 + [255] + [0] * 9
     told_73 = "73 0 0 0 |6 73 " + "0 " * 15 + "255 " + "0 " * 9 + "||\n"
     none_70 = "70 0 0 0 |6 70 " + "0 " * 15 + "255 " + "0 " * 9 + "||\n"
-    entry = "T400000000000" + "00" + "0012345678" + "0000000002" + "0000000000000123500"
-    large = "T400000000000" + "00" + "%010d" % (2**32 + 12345678) + "%010d" % (2**32 + 2) + "0000000000000123500"
-    frames = "0100BC614E00000002000000000001E26C/000000000200000001000000000001E26C/"
+    entry = "T400000000000" + "00" + "0012345678" + "0000000002" + "0000000000000123500" + "0000000001" + "0000000001" + "0006302026"
+    large = "T400000000000" + "00" + "%010d" % (2**32 + 12345678) + "%010d" % (2**32 + 2) + "0000000000000123500" + "%010d%010d%010d" % (
+        257, 2**32 + 1, 2**32 + 6302026)
+    frames = "0200BC614E00000002000000000001E26C01010060294A/000000000200000001000000000001E26C/"
     return (
         ("words of a state that was opened", opened, [0, 0, 0, 0, 0, 2026, 6] + [0] * 20),
         ("the words tell it again", exports.state_in(opened), State(held=HELD)),
-        ("a standing of 7, words lent short", called([7] + opened[1:], "E0101", "K260", "F01070", opening(0, 2026, 6)),
-         ["72 0 0 0 |7 0 0 0 0 2026 6 0 0 0 0 0 0 0 0 0 0 " + told_zeros + "||\n", "", "72 999 999 999 |" + "." * 70 + "\n",
+        ("a standing of 7, words lent short", called([7] + opened[1:], "E0101", "K260", "F01082", opening(0, 2026, 6)),
+         ["72 0 0 0 |7 0 0 0 0 2026 6 0 0 0 0 0 0 0 0 0 0 " + told_zeros + "||\n", "", "72 999 999 999 |" + "." * 82 + "\n",
           "72 999 999 999 |7 0 0 0 0 2026 6 0 0 0 0 0 0 0 0 0 0 " + told_zeros + "||\n"]),
         ("a number that is not listed", called([6, 9, 3, 2] + [0] * 23, "E0101"), ["72 0 0 0 |6 9 3 2 " + "0 " * 23 + "||\n"]),
         ("a line that is too large", called([6, 52, 2**32 + 3, 2] + [0] * 23, "E0101")[0][:21], "52 4294967295 2 0 |6 "),
@@ -1085,20 +1160,20 @@ def exports_by_hand():
         ("a format that is none", called(opened[:17] + [9] + opened[18:], "E0101"), ["72 0 0 0 |0 0 0 0 0 2026 6 " + "0 " * 10 + "9 " + "0 " * 9 + "||\n"]),
         ("refused with 73, whatever the format", called(none_73[:17] + [0] + none_73[18:], "E0101"), ["73 0 0 0 |6 73 " + "0 " * 25 + "||\n"]),
         ("words that PFML does not use, at the end", called([4, *accepted_state[1:18], 1, 2, 3, 4, 5, 6, 7, 8, 9], entry, "E0101"),
-         ["", "0 0 0 0 |5 0 0 0 6 2026 6 2026 3 0 0 0 0 2 1 123500 0 0 1 2 3 1 5 6 7 8 9 ||12345678:2:123500\n"]),
+         ["", "0 0 0 0 |5 0 0 0 6 2026 6 2026 3 0 0 0 0 2 1 123500 0 0 1 2 3 1 5 6 7 8 9 ||12345678:2:123500:1:1:6302026\n"]),
         ("and at a refusal", called([3, *accepted_state[1:18], 1, 2, 3, 4, 5, 6, 7, 8, 9], "E0101"), ["8 7 1 0 |6 8 7 1 " + "0 " * 23 + "||\n"]),
         ("the paper's second frame", called(refused_52, "E0000", "F00017", "F00016"),
          [told_52, "0 0 0 17 |FF34000000030002/\n", "88 0 0 0 |" + "." * 16 + "\n"]),
-        ("the paper's first frames", called(accepted_state, entry, "F01072", "F01069", "F00070"),
-         ["", "0 0 0 70 |" + frames + "..\n", "88 0 0 0 |" + "." * 69 + "\n", "72 0 0 0 |" + "." * 70 + "\n"]),
-        ("the low bytes of an entry that is too large", called(accepted_state, large, "F01070"), ["", "0 0 0 70 |" + frames + "\n"]),
+        ("the paper's first frames", called(accepted_state, entry, "F01084", "F01081", "F00082"),
+         ["", "0 0 0 82 |" + frames + "..\n", "88 0 0 0 |" + "." * 81 + "\n", "72 0 0 0 |" + "." * 82 + "\n"]),
+        ("the low bytes of an entry that is too large", called(accepted_state, large, "F01082"), ["", "0 0 0 82 |" + frames + "\n"]),
         ("frames before the end", called(opened, "F01003"), ["87 0 0 0 |...\n"]),
     )
 
 
 def file_of(data, pick):
     """The calls of the paper over a file: each lent all that remains, or at least 292 bytes of it."""
-    ids, entries = [9] * 3, [(9, 9, 9)] * 2
+    ids, entries = [9] * 3, [NINES] * 2
     st, reply = walk.open_walk(PFML, HELD, ids, entries)
     while data and not reply.number:
         st, reply = walk.line_call(st, data[:pick.choice((292, 293, 600, len(data) + 292))], ids, entries)
@@ -1123,10 +1198,10 @@ def employers_of(data):
     found = []
     for line in data.replace("\r\n", "\n").replace("\r", "\n").split("\n"):
         if line[:1] in ("E", "e"):
-            found.append((int(line[5:14]), 0, 0))
+            found.append((int(line[5:14]), 0, 0, int(line[186]), int(line[281]), int(line[282:290])))
         if line[:1] in ("S", "s"):
-            fein, count, cents = found[-1]
-            found[-1] = (fein, count + 1, cents + int(line[63:77]))
+            fein, count, cents, *kind = found[-1]
+            found[-1] = (fein, count + 1, cents + int(line[63:77]), *kind)
     return found
 
 
@@ -1136,7 +1211,7 @@ def against_itself():
     wrong, taken = [], 0
     for k in range(2000):
         data = chance_file(pick)
-        ids, entries = [9] * 3, [(9, 9, 9)] * 2
+        ids, entries = [9] * 3, [NINES] * 2
         answer = walk.whole_call(PFML, HELD, data, ids, entries)
         if (answer, ids, entries) != file_of(data, pick):
             wrong.append("file %d by calls" % k)
@@ -1160,7 +1235,7 @@ def compare(paths, texts):
     for path, text in zip(paths, texts):
         with open(path, encoding="latin-1", newline="") as f:
             results.append(check(os.path.relpath(path, records.ROOT) + " is what the reference says of %d calls" % texts[1].count("\n"), f.read() == text))
-    for label, said, right in files_by_hand() + rules_by_hand() + exports_by_hand():
+    for label, said, right in files_by_hand() + kinds_by_hand() + rules_by_hand() + exports_by_hand():
         results.append(check("by hand: " + label, said == right))
     wrong, taken = against_itself()
     results.append(check("2000 files in one slice and by calls, %d of them accepted%s" % (taken, "".join("; " + w for w in wrong[:3])), not wrong and taken))

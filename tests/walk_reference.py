@@ -3,8 +3,9 @@ opening and kept.
 
 It shares nothing with the product. Every state gets an answer, one that a caller made up too, and so do any bytes and tables of any length.
 
-A state is a `State`. The id table is a list of numbers, the employer list a list of (FEIN, S count, cents); both are written in place, as a call writes
-what it is lent. An answer is the next state and a `Reply`: the paper's number (0 where nothing is refused), line and column, and the bytes taken.
+A state is a `State`. The id table is a list of numbers, the employer list a list of entries, each six numbers by document 02 (xiii): FEIN, S count, cents,
+amended flag, final flag, cease date. Both are written in place, as a call writes what it is lent. An answer is the next state and a `Reply`: the paper's
+number (0 where nothing is refused), line and column, and the bytes taken.
 """
 from typing import NamedTuple
 
@@ -23,7 +24,7 @@ PFML, NO_FORMAT = 0, 255
 AT_OPENING = (70, 73)
 # the numbers that a refusal leaves in the state: those of lines and of the end of the input, and those of an opening
 LEFT = {*range(1, 9), *range(10, 21), *range(30, 66), *AT_OPENING}
-NO_ENTRY = (0, 0, 0)
+NO_ENTRY = (0,) * 6
 
 
 class State(NamedTuple):
@@ -150,7 +151,7 @@ def after_line(st, text, ids, entries):
         return st._replace(stage=AFTER_A, filed=(number_on(text, 2, 5), number_on(text, 19, 20)), **NO_E)
     if letter == "E":
         fein = number_on(text, 6, 14)
-        entries[st.employers] = (fein, 0, 0)
+        entries[st.employers] = (fein, 0, 0, number_on(text, 187, 187), number_on(text, 282, 282), number_on(text, 283, 290))
         return st._replace(stage=E_OPEN, employers=st.employers + 1, fein=fein, follow=number_on(text, 190, 190), **NEW_E)
     if letter == "S":
         identity, wages = number_on(text, 2, 10), number_on(text, 64, 77)
@@ -160,7 +161,8 @@ def after_line(st, text, ids, entries):
                            used=st.used + (1 if identity else 0))
     if letter == "T":
         ids[:st.used] = [0] * st.used
-        entries[st.employers - 1] = (entries[st.employers - 1][0], st.count, st.sum)
+        fein, _, _, *kind = entries[st.employers - 1]
+        entries[st.employers - 1] = (fein, st.count, st.sum, *kind)
         return st._replace(stage=AFTER_T, **NO_E)
     return st._replace(stage=AFTER_F, **NO_E)
 

@@ -8,15 +8,16 @@
 //     E  the end: ids lent 2-3, entries lent 4-5
 //     W  a whole file: as O; bytes
 //     R  a record written: T or F in 2, the length of the slice, at most 300, in 3-5. Full stops stand in the slice before
-//     F  the frames: entries lent 2-3, the length of the buffer, at most 500, in 4-6. Full stops stand in it before
+//     F  the frames: entries lent 2-3, the length of the buffer, at most 700, in 4-6. Full stops stand in it before
 //     B  a record built: A, E or S in 2, the length of the slice, at most 300, in 3-5; then the values, at most 40, a comma before each; the texts, as
 //        bytes. Full stops stand in the slice before
 //     G  a field read: the record's letter 2, the field's number 3-22; the line, as bytes
-//     X  a line, lent a list of 65,540 entries, each 7, 8, 9: the state has 65,535 employers, or one or two more, by the digit in 2; bytes. What it
+//     X  a line, lent a list of 65,540 entries, each 7 to 12: the state has 65,535 employers, or one or two more, by the digit in 2; bytes. What it
 //        leaves is not kept
 //     S  another state of PFML: the words 0 to 3 as `set_standing` reads them, those up to 16 from 20 on, as wide as `set_state` says, zeros after them
 //     N  another number in one word of the state: its place 2-3, the number 4-23
-//     T  another id and another entry: the id's place 2-3, the id 4-13; the entry's place 14-15, its FEIN 16-25, count 26-35 and cents 36-54
+//     T  another id and another entry: the id's place 2-3, the id 4-13; the entry's place 14-15, its FEIN 16-25, count 26-35, cents 36-54, amended flag
+//        55-64, final flag 65-74 and date 75-84
 //     K  what the calls to come are lent: so many words of state 2-3, at most 30, and of the answer 4, at most 6. At first it is 27 and 4
 //
 // The first four calls and X print a line: number, line, column and bytes; the state; the ids; the entries. Zeros at the end of a table are left
@@ -35,9 +36,10 @@
 
 #include "on_stack.h"
 
-enum { IDS = 40, ENTRIES = 12, LONG_LIST = 65540, LONG_LIST_TOLD_FROM = 65534, MOST_WORDS = 30, MOST_ANSWER = 6, MOST_SLICE = 300, MOST_BUFFER = 500, MOST_VALUES = 40 };
+enum { IDS = 40, ENTRIES = 12, LONG_LIST = 65540, LONG_LIST_TOLD_FROM = 65534, MOST_WORDS = 30, MOST_ANSWER = 6, MOST_SLICE = 300, MOST_BUFFER = 700, MOST_VALUES = 40 };
 
-_Static_assert(sizeof(wage_employer) == 24 && offsetof(wage_employer, count) == 8 && offsetof(wage_employer, cents) == 16, "as wage.h says");
+_Static_assert(sizeof(wage_employer) == 48 && offsetof(wage_employer, count) == 8 && offsetof(wage_employer, cents) == 16, "as wage.h says");
+_Static_assert(offsetof(wage_employer, amended) == 24 && offsetof(wage_employer, final_return) == 32 && offsetof(wage_employer, cease_date) == 40, "as wage.h says");
 
 static const uint64_t untold = 999;
 static const uint64_t behind_state = 5555555;
@@ -77,7 +79,7 @@ static size_t lesser(size_t a, size_t b)
 // ---- what is lent
 
 enum area { STATE, BYTES, ANSWER, ID_TABLE, LIST, OUT, AREAS };
-enum { AREA = 1 << 21, PAGE = 1 << 16, BEFORE = 64, UNTOUCHED = 0xA5 };
+enum { AREA = 1 << 22, PAGE = 1 << 16, BEFORE = 64, UNTOUCHED = 0xA5 };
 
 static uint8_t *area_end[AREAS];
 
@@ -217,13 +219,15 @@ static void put_ids(void)
 
 static void put_entries(const wage_employer *from, size_t count)
 {
-    while (count > 0 && from[count - 1].fein == 0 && from[count - 1].count == 0 && from[count - 1].cents == 0) {
+    static const wage_employer none;
+    while (count > 0 && memcmp(&from[count - 1], &none, sizeof none) == 0) {
         count--;
     }
     putchar('|');
     for (size_t i = 0; i < count; i++) {
         wage_employer e = from[i];
         printf("%s%llu:%llu:%llu", i > 0 ? "," : "", (unsigned long long)e.fein, (unsigned long long)e.count, (unsigned long long)e.cents);
+        printf(":%llu:%llu:%llu", (unsigned long long)e.amended, (unsigned long long)e.final_return, (unsigned long long)e.cease_date);
     }
 }
 
@@ -325,7 +329,7 @@ static void line_beyond(struct text s)
     uint32_t no_ids[IDS] = {0};
     uint64_t words[MOST_WORDS];
     for (size_t i = 0; i < LONG_LIST; i++) {
-        long_list[i] = (wage_employer){7, 8, 9};
+        long_list[i] = (wage_employer){7, 8, 9, 10, 11, 12};
     }
     memcpy(words, state, sizeof words);
     words[WAGE_FILE_EMPLOYERS] = 65535 + lesser(number_in(s, 2, 2), 2);
@@ -469,7 +473,8 @@ static void set_tables(struct text s)
         ids[at] = small(number_in(s, 4, 13));
     }
     if (place < ENTRIES) {
-        list[place] = (wage_employer){number_in(s, 16, 25), number_in(s, 26, 35), number_in(s, 36, 54)};
+        list[place] = (wage_employer){number_in(s, 16, 25), number_in(s, 26, 35), number_in(s, 36, 54), number_in(s, 55, 64), number_in(s, 65, 74),
+                                      number_in(s, 75, 84)};
     }
 }
 

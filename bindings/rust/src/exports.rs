@@ -164,7 +164,7 @@ extern "C" {
 
     /// Writes the acknowledgement of a walk that has ended to the front of the buffer, and answers
     /// how many bytes it is. It asks for the list as the end left it, and for a buffer that holds
-    /// the acknowledgement, else it answers 88: 35 bytes for each employer and 35 more are enough.
+    /// the acknowledgement, else it answers 88: 47 bytes for each employer and 35 more are enough.
     pub fn wage_frames(
         state: *const u64,
         state_length: usize,

@@ -33,7 +33,7 @@ use std::fmt;
 
 /// The version of the exports that this crate declares. A program compares it with [`abi_version`]
 /// before it makes any other call.
-pub const ABI_VERSION: u64 = 1;
+pub const ABI_VERSION: u64 = 2;
 
 /// The version of the library that is linked. Where it is not [`ABI_VERSION`], no other call may be
 /// made: the words of the state and the entries of the list change from version to version.
@@ -53,7 +53,7 @@ pub const UNKNOWN_FORMAT: u64 = 73;
 /// So many words has the state of a walk; `include/wage.h` says what stands where.
 pub const STATE_WORDS: usize = 27;
 
-/// An entry of the employer list.
+/// An entry of the employer list: six numbers, 48 bytes.
 #[repr(C)]
 #[derive(Clone, Copy, Debug, Default, PartialEq, Eq)]
 pub struct Employer {
@@ -63,6 +63,12 @@ pub struct Employer {
     pub count: u64,
     /// Their wages.
     pub cents: u64,
+    /// 1 if the return is amended, else 0.
+    pub amended: u64,
+    /// 1 if the return is final, else 0.
+    pub final_return: u64,
+    /// The day on which the business closed, MMDDYYYY as a number; 0 unless the return is final.
+    pub cease_date: u64,
 }
 
 /// Why a call is refused, and where. It prints as a sentence with the number, and with the line and
@@ -256,7 +262,7 @@ impl Walk {
     }
 
     /// Writes the acknowledgement of a walk that has ended, by acceptance or by refusal, to the
-    /// front of the buffer, and tells how many bytes it is. 35 bytes for each employer and 35 more
+    /// front of the buffer, and tells how many bytes it is. 47 bytes for each employer and 35 more
     /// are enough. Refused, the buffer untouched, with 87 if the walk has not ended and with 88 if
     /// the buffer is too small.
     pub fn frames_into(&self, out: &mut [u8]) -> Result<usize, Refusal> {
@@ -280,7 +286,7 @@ impl Walk {
     /// hexadecimal. Refused with 87 if it has not ended. Whether the file was accepted is what
     /// [`Walk::end`] or [`Walk::whole`] said.
     pub fn frames(&self) -> Result<Vec<u8>, Refusal> {
-        let mut out = vec![0; 35 * (self.list.len() + 1)];
+        let mut out = vec![0; 47 * self.list.len() + 35];
         let length = self.frames_into(&mut out)?;
         out.truncate(length);
         Ok(out)

@@ -97,9 +97,58 @@ fn employers_of_a_file() {
         fein: 12_345_678,
         count: 2,
         cents: 123_500,
+        ..Employer::default()
     };
     assert_eq!(walk.list, [entry, Employer::default(), Employer::default()]);
     assert_eq!(walk.ids, [0, 0]);
+}
+
+/// The return of the second employer is final; amended, the first one's says so. The entry has what
+/// E says from that line on, and T leaves it.
+#[test]
+fn kinds_of_return() {
+    let mut file = example("accepted-two-employers.txt");
+    file[291 + 186] = b'1';
+    let first = Employer {
+        fein: 12_345_678,
+        amended: 1,
+        ..Employer::default()
+    };
+    let second = Employer {
+        fein: 700_000_000,
+        final_return: 1,
+        cease_date: 6_302_026,
+        ..Employer::default()
+    };
+    let mut walk = Walk::new(3, 2);
+    walk.open(FORMAT_PFML, YEAR, MONTH).unwrap();
+    let mut seen = Vec::new();
+    for line in file.chunks(291) {
+        assert_eq!(walk.line(line), Ok(291));
+        if b"ET".contains(&line[0]) {
+            seen.push(walk.list[seen.len() / 2]);
+        }
+    }
+    let of = |entry: Employer, count, cents| Employer {
+        count,
+        cents,
+        ..entry
+    };
+    let (one, other) = (of(first, 2, 123_500), of(second, 3, 2_255_065));
+    assert_eq!(seen, [first, one, second, other]);
+    assert_eq!(walk.end(), Ok(()));
+    let frames = "0200BC614E00000002000000000001E26C010000000000\n\
+                  0229B927000000000300000000002268D900010060294A\n\
+                  0000000005000000020000000000244B45\n";
+    assert_eq!(walk.frames(), Ok(frames.as_bytes().to_vec()));
+    // Of numbers that are too large for their bytes the low ones are told.
+    walk.list[0].amended = 256;
+    walk.list[1].final_return = 257;
+    walk.list[1].cease_date += 1 << 32;
+    let frames = frames.replace("26C01", "26C00").into_bytes();
+    assert_eq!(walk.frames(), Ok(frames));
+    walk.open(FORMAT_PFML, YEAR, MONTH).unwrap();
+    assert_eq!(walk.list, [Employer::default(); 2]);
 }
 
 /// A T and an F that the library writes in place of the file's own.
@@ -128,7 +177,7 @@ fn records_written() {
 #[test]
 fn walks_that_have_ended_or_not() {
     let mut walk = Walk::new(2, 1);
-    let mut out = [b'.'; 70];
+    let mut out = [b'.'; 82];
     walk.open(FORMAT_PFML, YEAR, MONTH).unwrap();
     assert_eq!(number(walk.frames_into(&mut out)), 87);
     walk.whole(
@@ -141,9 +190,9 @@ fn walks_that_have_ended_or_not() {
     let kept = walk.clone();
     assert_eq!(walk.end().unwrap_err().number, 71);
     assert_eq!(number(walk.line(b"A\n")), 71);
-    assert_eq!(number(walk.frames_into(&mut out[..69])), 88);
-    assert_eq!(out, [b'.'; 70]);
-    assert_eq!(walk.frames_into(&mut out), Ok(70));
+    assert_eq!(number(walk.frames_into(&mut out[..81])), 88);
+    assert_eq!(out, [b'.'; 82]);
+    assert_eq!(walk.frames_into(&mut out), Ok(82));
     assert_eq!(walk, kept);
     let refusal = Refusal {
         number: 70,

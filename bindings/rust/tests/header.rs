@@ -95,7 +95,29 @@ fn other_constants_of_the_header() {
     let no_account = "#define WAGE_NO_ACCOUNT ((uint64_t)-1)\n";
     assert!(read("../../include/wage.h").contains(no_account));
     assert_eq!(NO_ACCOUNT, u64::MAX);
-    assert_eq!(std::mem::size_of::<Employer>(), 24);
+    assert_eq!(std::mem::size_of::<Employer>(), 48);
+}
+
+/// The names of the numbers in an entry of the employer list: each line after one, up to a brace,
+/// that has a name between these two.
+fn names_after(text: &str, first: &str, before: &str, after: &str) -> Vec<String> {
+    let (_, rest) = text.split_once(first).expect("it is declared");
+    let (inside, _) = rest.split_once('}').expect("it ends");
+    let name = |line: &str| {
+        let rest = line.trim().strip_prefix(before)?;
+        rest.split_once(after).map(|(name, _)| name.to_string())
+    };
+    inside.lines().filter_map(name).collect()
+}
+
+#[test]
+fn entry_of_the_header() {
+    let header = read("../../include/wage.h");
+    let told = names_after(&header, "typedef struct wage_employer {", "uint64_t ", ";");
+    let source = read("src/lib.rs");
+    let of_crate = names_after(&source, "pub struct Employer {", "pub ", ": u64,");
+    assert_eq!(told, of_crate);
+    assert_eq!(told.len() * 8, std::mem::size_of::<Employer>());
 }
 
 /// The header's comments begin with the columns; the library has the same first column for the

@@ -18,7 +18,7 @@ programRoom = record { ids = 8192; list = 1024 }
 
 -- The acknowledgement of a file of a format, under a last closed quarter.
 abbrev pub fileFrames : Opening → List ℕ → List ℕ
-fileFrames held file = if mayOpen held then framesOf (meaning programRoom held file) else refusalFrame (openingNotice held)
+fileFrames held file = if mayOpen held then framesOf (held .format) (meaning programRoom held file) else refusalFrame (openingNotice held)
 
 -- "Input: six digits YYYYMM of the last closed quarter and LF (else 70; not counted as a line), then the file."
 abbrev pub acknowledgement : Format → List ℕ → List ℕ

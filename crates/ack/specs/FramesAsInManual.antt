@@ -9,9 +9,9 @@ use Rattle.meaning.specs.Meaning.{LineEdit, accepted}
 use Rattle.meaning.specs.BrokenEdits.{NoneBroken, FirstBroken}
 use Rattle.frames.specs.Frames.{refusalFrame, framesOf}
 
--- "accepted .. with each employer's totals below it": a frame for each E record, with the S records under it, then the closing frame with those of the file.
+-- "accepted .. with each employer's totals below it": a frame for each E record, with the S records under it (and, in the wage file, the kind of return), then the closing frame with those of the file.
 abbrev pub acceptedFrames : Format → List ℕ → List ℕ
-acceptedFrames format file = framesOf (accepted (employersOf (recordsOf format file)) (totalsOf (recordsOf format file)))
+acceptedFrames format file = framesOf format (accepted (employersOf (recordsOf format file)) (totalsOf (recordsOf format file)))
 
 -- "'refused' gives the first line, column and reason": one frame, that of the first broken edit in the stated order.
 pub record RefusedFirst (edits : List LineEdit) (output : List ℕ) : Type 0 where

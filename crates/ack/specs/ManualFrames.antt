@@ -17,7 +17,7 @@ use Rattle.meaning.specs.Theorems.{not-refused, accepted-iff, first-is-first}
 use Rattle.step.specs.Moves.{openingNotice}
 use Rattle.frames.specs.FirstByte.{never-both}
 use Rattle.frames.specs.FrameLaws.{refusal-length, within-bound}
-use Rattle.frames.specs.Frames.{framesOf}
+use Rattle.frames.specs.Frames.{employerSize, framesOf}
 use Rattle.ack.specs.Acknowledgement.{programRoom, fileFrames, acknowledgement}
 use Rattle.ack.specs.Turns.{headerSize, headerQuarter, headerOpening}
 use Rattle.ack.specs.FramesAsInManual.{acceptedFrames, ToldAsInManual}
@@ -26,10 +26,10 @@ module _ (held : Opening) (file : List ℕ) where
   abbrev edits : List LineEdit
   edits = fileEdits programRoom held file
 
-  by-outcome : (outcome : Outcome) → meaning programRoom held file ≡ outcome → ToldAsInManual (held .format) edits file (framesOf outcome)
+  by-outcome : (outcome : Outcome) → meaning programRoom held file ≡ outcome → ToldAsInManual (held .format) edits file (framesOf (held .format) outcome)
   by-outcome (accepted entries totals) e =
       let are = employers-are programRoom held file entries totals e in
-      let same : framesOf (accepted entries totals) ≡ acceptedFrames (held .format) file = rw (are .0, are .1) in
+      let same : framesOf (held .format) (accepted entries totals) ≡ acceptedFrames (held .format) file = rw (are .0, are .1) in
       record {
         accepted-none-broken = λ told. accepted-iff programRoom held file .1 entries totals e;
         none-broken-accepted = λ none-broken. same;
@@ -37,7 +37,7 @@ module _ (held : Opening) (file : List ℕ) where
       }
   by-outcome (refused says) e =
       record {
-        accepted-none-broken = λ told. absurd (never-both (employersOf (recordsOf (held .format) file)) (totalsOf (recordsOf (held .format) file)) says told);
+        accepted-none-broken = λ told. absurd (never-both (held .format) (employersOf (recordsOf (held .format) file)) (totalsOf (recordsOf (held .format) file)) says told);
         none-broken-accepted = λ none-broken. absurd (not-refused _ _ says (sym (accepted-iff programRoom held file .0 none-broken) ∙ e));
         otherwise-refused = λ otherwise. record { says = says; frame = refl; first = first-is-first programRoom held file says e };
       }
@@ -49,18 +49,21 @@ acknowledged-as-in-manual format input known allowed =
     rw (quarter-opens format (headerQuarter input) known allowed)
     (by-outcome (headerOpening format input) (drop headerSize input) (meaning programRoom (headerOpening format input) (drop headerSize input)) refl)
 
--- ---- "So no output exceeds 35 bytes for each employer and 35 more."
+-- ---- "the output bound becomes 47 bytes for each employer and 35 more": `employerSize` is 47 in the wage file.
+abbrev boundFor : Format → List ℕ → ℕ
+boundFor format file = employerSize format * length (employersOf (recordsOf format file)) + 35
+
 outcome-bound : (held : Opening) (file : List ℕ) (outcome : Outcome) → meaning programRoom held file ≡ outcome
-    → length (framesOf outcome) ≤ 35 * length (employersOf (recordsOf (held .format) file)) + 35
+    → length (framesOf (held .format) outcome) ≤ boundFor (held .format) file
 outcome-bound held file (accepted entries totals) e =
     let are = employers-are programRoom held file entries totals e .0 in
-    rw (within-bound (accepted entries totals), are) (omega arith)
+    rw (within-bound (held .format) (accepted entries totals), are) (omega arith)
 outcome-bound held file (refused says) e = rw (refusal-length says) (omega arith)
 
-file-bound : (held : Opening) (file : List ℕ) (allowed : Bool) → mayOpen held ≡ allowed → length (fileFrames held file) ≤ 35 * length (employersOf (recordsOf (held .format) file)) + 35
+file-bound : (held : Opening) (file : List ℕ) (allowed : Bool) → mayOpen held ≡ allowed → length (fileFrames held file) ≤ boundFor (held .format) file
 file-bound held file true e = rw e (outcome-bound held file (meaning programRoom held file) refl)
 file-bound held file false e = rw (e, refusal-length (openingNotice held)) (omega arith)
 
 -- Of every input, whatever it is: the employers are the E records of the file after its header.
-pub acknowledgement-bound : (format : Format) (input : List ℕ) → length (acknowledgement format input) ≤ 35 * length (employersOf (recordsOf format (drop headerSize input))) + 35
+pub acknowledgement-bound : (format : Format) (input : List ℕ) → length (acknowledgement format input) ≤ employerSize format * length (employersOf (recordsOf format (drop headerSize input))) + 35
 acknowledgement-bound format input = file-bound (headerOpening format input) (drop headerSize input) (mayOpen (headerOpening format input)) refl

@@ -26,9 +26,9 @@ abbrev pub input : List (List ℕ) → List ℕ
 input [] = []
 input (read ∷ reads) = read ++ input reads
 
--- The buffer that holds the frames of 1,024 employers: "35 bytes for each employer and 35 more".
+-- The buffer that holds the frames of 1,024 employers in every format: "47 bytes for each employer and 35 more".
 abbrev pub enough : ℕ
-enough = 35875
+enough = 48163
 
 -- The frames that a finished turn writes into a buffer.
 abbrev pub turnFrames : Progress → Tables → List ℕ → Framing

@@ -37,7 +37,7 @@ use Rattle.walk.specs.Calls.{leaves, wholeFile}
 use Rattle.walk.specs.GoodLaws.{good-none, Good}
 use Rattle.walk.specs.WholeLaws.{whole-means}
 use Rattle.frames.specs.Frames.{refusalFrame, framesOf, written, Framing, fitted, roomWithout, framing}
-use Rattle.frames.specs.FrameLaws.{refusal-length, within-bound, accepted-framed, refused-framed}
+use Rattle.frames.specs.FrameLaws.{refusal-length, frames-most, within-bound, accepted-framed, refused-framed}
 use Rattle.ack.specs.Acknowledgement.{programRoom, fileFrames, acknowledgement}
 use Rattle.ack.specs.Program.{turns, input, enough, turnFrames}
 use Rattle.ack.specs.ProgramLaws.{turns-wait}
@@ -77,10 +77,11 @@ module _ (held : Opening) (allowed : mayOpen held ≡ true) (p : List Said) (goo
       (lawfulOf (held .format) .more-unlent 8192 (length (idsUnder p)) false (totalsIn p) (openIn p) (rw last at (good .more)))
       (rw (allowed, rw last at (good .quarter)))
 
-  accepted-written : (out : List ℕ) → enough ≤ length out → framing (acceptedAt held p) list out ≡ writes (framesOf (accepted (entriesIn p) (totalsIn p))) out
+  accepted-written : (out : List ℕ) → enough ≤ length out → framing (acceptedAt held p) list out ≡ writes (framesOf (held .format) (accepted (entriesIn p) (totalsIn p))) out
   accepted-written out h =
       accepted-framed (acceptedAt held p) out (entriesIn p) 1024 accepted-fits refl (sym (entries-many p))
-      ∙ fit-written (framesOf (accepted (entriesIn p) (totalsIn p))) out (rw (within-bound (accepted (entriesIn p) (totalsIn p))) (omega (arith, few)))
+      ∙ fit-written (framesOf (held .format) (accepted (entriesIn p) (totalsIn p))) out
+      (rw (within-bound (held .format) (accepted (entriesIn p) (totalsIn p))) (omega (arith, frames-most (held .format) (length (entriesIn p)), few)))
 
 -- ---- a file
 module _ (held : Opening) (file : List ℕ) (t : Tables) (room : roomOf t ≡ programRoom) (out : List ℕ) (h : enough ≤ length out) where
@@ -90,12 +91,12 @@ module _ (held : Opening) (file : List ℕ) (t : Tables) (room : roomOf t ≡ pr
   abbrev WritesFor : Out → List ℕ → Type 0
   WritesFor o frames = framing (o .walk) (o .left .list) out ≡ writes frames out
 
-  meant-written : mayOpen held ≡ true → (outcome : Outcome) → meaning programRoom held file ≡ outcome → WritesFor (leaves programRoom held records outcome) (framesOf outcome)
+  meant-written : mayOpen held ≡ true → (outcome : Outcome) → meaning programRoom held file ≡ outcome → WritesFor (leaves programRoom held records outcome) (framesOf (held .format) outcome)
   meant-written allowed (accepted entries totals) e =
       let iff = accepted-iff programRoom held file in
       let same : accepted entries totals ≡ accepted (entriesIn records) (totalsIn records) = sym e ∙ iff .0 (iff .1 entries totals e) in
       let taken = all-taken programRoom held allowed entries totals (linesOf file) [] (good-none programRoom held) e in
-      subst (λ (o : Outcome). WritesFor (leaves programRoom held records o) (framesOf o)) (sym same)
+      subst (λ (o : Outcome). WritesFor (leaves programRoom held records o) (framesOf (held .format) o)) (sym same)
       (accepted-written held allowed records (taken .0) (taken .1) out h)
   meant-written allowed (refused says) e = refused-written (held .format) says _ out (refused-left programRoom held says (linesOf file) [] (opens-known held allowed) e) h
 

@@ -26,10 +26,10 @@ use Rattle.alike.specs.HypothesisTests.{together, isMet, met-by, all-met
 use Rattle.alike.specs.Ordered.{AsOrdered}
 use Rattle.alike.specs.OrderedLaws.{alike-ordered, as-ordered}
 
--- The example with its E, S, S and T a second time, then of another employer.
+-- The example with its E, S, S and T a second time, then of another employer. The first return is amended, the second final.
 abbrev ofAnother : List Change
 ofAnother =
-    reads 6 6 "700000000" ∷ reads 7 147 "700000000" ∷ reads 8 147 "700000000" ∷ reads 9 13 "700000000" ∷
+    reads 2 187 "1" ∷ reads 6 282 "1" ∷ reads 6 283 "03312026" ∷ reads 6 6 "700000000" ∷ reads 7 147 "700000000" ∷ reads 8 147 "700000000" ∷ reads 9 13 "700000000" ∷
     -- F: four S records, two E records, and the wages of both
     reads 10 2 "00000000040000000002" ∷ reads 10 41 "000000000247000" ∷ []
 
@@ -56,7 +56,8 @@ other =
 
 -- The first is accepted.
 pub pair-accepted : meaning room held one ≡ accepted
-    (record { fein = 12345678; count = 2; cents = 123500 } ∷ record { fein = 700000000; count = 2; cents = 123500 } ∷ [])
+    (record { fein = 12345678; count = 2; cents = 123500; amended = 1; «final_return» = 0; «cease_date» = 0 }
+    ∷ record { fein = 700000000; count = 2; cents = 123500; amended = 0; «final_return» = 1; «cease_date» = 3312026 } ∷ [])
     (record { count = 4; employers = 2; sum = 247000; second = 0; others = 0; notes = 0 })
 unfolding computed
 pair-accepted = refl

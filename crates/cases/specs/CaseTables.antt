@@ -62,9 +62,19 @@ unfolding
     isAmong editsFrom firstOfFile recordsOnto
 computed c = meaning room held (c .file)
 
--- "passes": the file is accepted, with its employer of this FEIN and the totals of the two employees.
+-- "passes": the file is accepted, with its employer of this FEIN and the totals of the two employees; and with the employer's return: whether it is
+-- amended, whether it is final, and the cease date.
+abbrev pub passesAs : ℕ → ℕ → ℕ → ℕ → Outcome
+passesAs fein amended final date =
+    accepted
+    (record { fein = fein; count = 2; cents = 123500; amended = amended; «final_return» = final; «cease_date» = date } ∷ [])
+    (record { count = 2; employers = 1; sum = 123500; second = 0; others = 0; notes = 0 })
+
 abbrev pub passes : ℕ → Outcome
-passes fein = accepted (record { fein = fein; count = 2; cents = 123500 } ∷ []) (record { count = 2; employers = 1; sum = 123500; second = 0; others = 0; notes = 0 })
+passes fein = passesAs fein 0 0 0
+
+abbrev pub passesFinal : ℕ → Outcome
+passesFinal date = passesAs 12345678 0 1 date
 
 -- Another year, on A, E and S.
 abbrev inYear : String → List Change
@@ -94,10 +104,10 @@ table =
     -- "d. LF CR after a record: next line empty, 1 at 1." CR is 13.
     case "d" (exampleWith (hasMore 2 1 13 ∷ [])) (refused (notice 1 2 1)) ∷
     -- "e. 02292028 is a date; 02292027 isn't."
-    case "e" (exampleWith (inYear "2028" ++ ceased "02292028")) (passes 12345678) ∷
+    case "e" (exampleWith (inYear "2028" ++ ceased "02292028")) (passesFinal 2292028) ∷
     case "e" (exampleWith (inYear "2027" ++ ceased "02292027")) (refused (notice 48 2 283)) ∷
     -- "f. Quarter 03 of 2026 holds 03312026, not 04012026."
-    case "f" (exampleWith (ceased "03312026")) (passes 12345678) ∷
+    case "f" (exampleWith (ceased "03312026")) (passesFinal 3312026) ∷
     case "f" (exampleWith (ceased "04012026")) (refused (notice 49 2 283)) ∷
     -- "g. FEIN 690000000: 44; 700000000 passes."
     case "g" (exampleWith (ofEmployer "690000000")) (refused (notice 44 2 6)) ∷
@@ -128,7 +138,7 @@ nineZeros =
 abbrev pub closing : List Case
 closing =
     -- "an employer that shuts in May"
-    case "v" (exampleWith (inYear "2028" ++ inPeriod "06" ++ ceased "05312028")) (passes 12345678) ∷
+    case "v" (exampleWith (inYear "2028" ++ inPeriod "06" ++ ceased "05312028")) (passesFinal 5312028) ∷
     -- "In a current-quarter file every E must be a final return."
     case "v" (exampleWith (inYear "2028" ++ inPeriod "06")) (refused (notice 65 2 282)) ∷
     -- "after 47 there"
@@ -141,3 +151,10 @@ closing =
     case "v" (exampleWith (inYear "2028" ++ inPeriod "09" ++ ceased "08312028")) (refused (notice 41 1 19)) ∷
     -- "39 is for years beyond the current quarter's"
     case "v" (exampleWith (inYear "2029" ++ ceased "03312029")) (refused (notice 39 1 2)) ∷ []
+
+-- (xiii) of document 02, "Employer entry with return kind": "the amended flag, the final flag and the cease date as a number, zero if none".
+abbrev pub returnKinds : List Case
+returnKinds =
+    case "xiii" (exampleWith (reads 2 187 "1" ∷ [])) (passesAs 12345678 1 0 0) ∷
+    case "xiii" (exampleWith (reads 2 187 "1" ∷ ceased "03312026")) (passesAs 12345678 1 1 3312026) ∷
+    case "xiii" (exampleWith (ceased "01012026")) (passesFinal 1012026) ∷ []

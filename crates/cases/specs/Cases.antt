@@ -1,8 +1,8 @@
--- Laws: in every case of the three tables the outcome that is computed from the definitions is the one that the paper says.
+-- Laws: in every case of the four tables the outcome that is computed from the definitions is the one that the paper says.
 -- Nothing rests on it.
 use mathlib.Core.List.{map}
 use mathlib.Core.Path.{_≡_, refl}
-use Rattle.cases.specs.CaseTables.{Case, computed, table, nineZeros, closing}
+use Rattle.cases.specs.CaseTables.{Case, computed, table, nineZeros, closing, returnKinds}
 
 -- In every case the definitions say what the paper says.
 pub cases : map computed table ≡ map (λ (c : Case). c .stated) table
@@ -16,3 +16,7 @@ nine-zeros = refl
 pub closing-cases : map computed closing ≡ map (λ (c : Case). c .stated) closing
 unfolding computed
 closing-cases = refl
+
+pub return-kinds : map computed returnKinds ≡ map (λ (c : Case). c .stated) returnKinds
+unfolding computed
+return-kinds = refl

@@ -7,6 +7,8 @@ use lib.ListN.{length, take, drop, getD}
 use Rattle.laws.specs.Choice.{if_then_else_}
 use Rattle.reason.specs.ReasonNumbers.{Notice}
 use Rattle.edits.specs.declared.Totals.{Totals}
+use Rattle.edits.specs.declared.format.Format.{Format}
+use Rattle.edits.specs.declared.format.Format.the-variants.{Pfml, Unknown}
 use Rattle.tables.specs.Room.{Room}
 use Rattle.tables.specs.declared.Employer.{Employer}
 use Rattle.meaning.specs.Meaning.{Outcome, accepted, refused}
@@ -21,31 +23,45 @@ use Rattle.frames.specs.declared.Framed.the-variants.{Written, Unfit, No
 abbrev pub lineEnd : List ℕ
 lineEnd = 10 ∷ []
 
--- "01, FEIN (4 bytes), S count (4), cents (8), one for each employer"
-abbrev pub employerFrame : Employer → List ℕ
-employerFrame e = hex 2 1 ++ hex 8 (e .fein) ++ hex 8 (e .count) ++ hex 16 (e .cents) ++ lineEnd
+-- A kind (1 byte) and three numbers, of 4, 4 and 8 bytes: an employer's frame and the closing one begin so.
+abbrev pub threeNumbers : ℕ → ℕ → ℕ → ℕ → List ℕ
+threeNumbers kind a b cents = hex 2 kind ++ hex 8 a ++ hex 8 b ++ hex 16 cents
 
-unfoldable pub employerFrames : List Employer → List ℕ
-employerFrames [] = []
-employerFrames (e ∷ list) = employerFrame e ++ employerFrames list
+-- An employer's frame, by the format.
+abbrev pub employerFrame : Format → Employer → List ℕ
+-- "The employer frame 01 becomes 02 with the flags (1 byte each) and the date (4 bytes) at its end, six bytes longer."
+employerFrame Pfml e =
+    threeNumbers 2 (e .fein) (e .count) (e .cents) ++ hex 2 (e .amended) ++ hex 2 (e .«final_return») ++ hex 8 (e .«cease_date») ++ lineEnd
+-- Document 01's frame: "01, FEIN (4 bytes), S count (4), cents (8), one for each employer". A number that names no format has it, and no walk of it is
+-- accepted.
+employerFrame Unknown e = threeNumbers 1 (e .fein) (e .count) (e .cents) ++ lineEnd
+
+-- Its length: 23 bytes in two digits each, and LF; document 01's has 17 bytes.
+abbrev pub employerSize : Format → ℕ
+employerSize Pfml = 47
+employerSize Unknown = 35
+
+unfoldable pub employerFrames : Format → List Employer → List ℕ
+employerFrames format [] = []
+employerFrames format (e ∷ list) = employerFrame format e ++ employerFrames format list
 
 -- "then 00, S count (4), E count (4), cents (8)"
 abbrev pub closingFrame : Totals → List ℕ
-closingFrame all = hex 2 0 ++ hex 8 (all .count) ++ hex 8 (all .employers) ++ hex 16 (all .sum) ++ lineEnd
+closingFrame all = threeNumbers 0 (all .count) (all .employers) (all .sum) ++ lineEnd
 
 -- "If refused, only FF, number (1), line (4), column (2)."
 abbrev pub refusalFrame : Notice → List ℕ
 refusalFrame says = hex 2 255 ++ hex 2 (says .number) ++ hex 8 (says .line) ++ hex 4 (says .column) ++ lineEnd
 
--- The acknowledgement of a file, by its meaning.
-abbrev pub framesOf : Outcome → List ℕ
-framesOf (accepted entries totals) = employerFrames entries ++ closingFrame totals
-framesOf (refused says) = refusalFrame says
+-- The acknowledgement of a file, by its format and its meaning.
+abbrev pub framesOf : Format → Outcome → List ℕ
+framesOf format (accepted entries totals) = employerFrames format entries ++ closingFrame totals
+framesOf format (refused says) = refusalFrame says
 
--- How many bytes they are: 35 for each employer and 35 more; 17 for a refusal.
-abbrev pub bound : Outcome → ℕ
-bound (accepted entries totals) = 35 * length entries + 35
-bound (refused says) = 17
+-- How many bytes they are. PFML: "the output bound becomes 47 bytes for each employer and 35 more". 17 for a refusal.
+abbrev pub bound : Format → Outcome → ℕ
+bound format (accepted entries totals) = employerSize format * length entries + 35
+bound format (refused says) = 17
 
 -- ---- a call that writes frames
 -- What it answers: the number, 0 if all is well, and how many bytes are written.
@@ -93,10 +109,10 @@ isAccepted (walks.reading phase) = false
 isAccepted walks.accepted = true
 isAccepted (walks.refused says) = false
 
--- Frames come only for a walk that has ended: accepted or refused.
+-- Frames come only for a walk that has ended: accepted, with frames of its format, or refused.
 abbrev pub standingFrames : Walk → List Employer → List ℕ → Standing → Framing
 standingFrames walk list out (walks.reading phase) = untouched 87 out
-standingFrames walk list out walks.accepted = fitted (employerFrames (take (walk .all .employers) list) ++ closingFrame (walk .all)) out
+standingFrames walk list out walks.accepted = fitted (employerFrames (walk .held .format) (take (walk .all .employers) list) ++ closingFrame (walk .all)) out
 standingFrames walk list out (walks.refused says) = fitted (refusalFrame says) out
 
 -- The call is lent no id table, so none is compared (72).

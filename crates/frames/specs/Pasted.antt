@@ -1,4 +1,4 @@
--- Follows the code; need not be believed. Bytes over a part of a buffer, and the laws of writing one part after the other; a frame of three numbers.
+-- Follows the code; need not be believed. Bytes over a part of a buffer, and the laws of writing one part after the other.
 use Prim.Native.Nat.{ℕ, suc, _+_, _≤_, _<_}
 use mathlib.Core.List.{List, [], _∷_, _++_, append-assoc, append-nil}
 use mathlib.Core.Path.{_≡_, ap, _∙_}
@@ -7,8 +7,6 @@ use native.Mathlib.Numerals.{add-one}
 use native.Mathlib.Omega.{arith}
 use lib.ListN.{length, take, drop, set, length-append, length-take, length-drop, take-append-drop}
 use lib.Seq.{length-take-le, take-at, drop-at, drop-append-add, drop-drop, set-split, take-set-le, append-snoc}
-use Rattle.frames.specs.Hex.{hex}
-use Rattle.frames.specs.Frames.{lineEnd}
 
 -- The buffer with these bytes from a place on, where they fit.
 unfoldable pub pasted : ℕ → List ℕ → List ℕ → List ℕ
@@ -60,7 +58,3 @@ module _ (out : List ℕ) where
       let here : drop (at + n) (set out (at + n) b) ≡ rest =
       rw (set-split out (at + n) b h, drop-at (take (at + n) out) rest (at + n) (length-take-le (at + n) out (omega arith))) in
       rw (take-set-le at out (at + n) b (omega arith), e, here, place, ← append-assoc, append-snoc)
-
--- A frame of its kind and three numbers, of 4, 4 and 8 bytes: an employer's and the closing one are such.
-abbrev pub threeNumbers : ℕ → ℕ → ℕ → ℕ → List ℕ
-threeNumbers kind a b cents = hex 2 kind ++ hex 8 a ++ hex 8 b ++ hex 16 cents ++ lineEnd

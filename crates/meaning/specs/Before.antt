@@ -7,8 +7,7 @@ use Rattle.edits.specs.declared.Open.{Open}
 use Rattle.edits.specs.declared.Phase.{Phase}
 use Rattle.edits.specs.declared.Phase.the-variants.{BeforeA}
 use Rattle.edits.specs.declared.Totals.{Totals}
-use Rattle.shape.specs.After.{phaseAfter, noQuarter, filedAfter, noneOpen, openAfter, idsWith, noTotals, totalsAfter, feinsWith}
-use Rattle.shape.specs.declared.EmployerOn.{EmployerOn}
+use Rattle.shape.specs.After.{phaseAfter, noQuarter, filedAfter, noneOpen, openAfter, entryAtE, idsWith, noTotals, totalsAfter, feinsWith}
 use Rattle.shape.specs.declared.Said.{Said}
 use Rattle.shape.specs.declared.Said.the-variants.{OfA, OfE, OfS, OfT, OfF, OfNone}
 use Rattle.tables.specs.Tables.{closedLast}
@@ -44,10 +43,8 @@ abbrev pub feinsIn : List Said → List ℕ
 feinsIn [] = []
 feinsIn (said ∷ p) = feinsWith said (feinsIn p)
 
--- The employer list's entries, in file order. "An employer's entry gets its FEIN at E, its count and cents (zero till then) at T."
-abbrev pub entryAtE : EmployerOn → Employer
-entryAtE employer = record { fein = employer .fein; count = 0; cents = 0 }
-
+-- The employer list's entries, in file order. "An employer's entry gets its FEIN at E, its count and cents (zero till then) at T", and at E the
+-- flags and the cease date.
 abbrev pub entriesIn : List Said → List Employer
 entriesIn [] = []
 entriesIn (OfA quarter ∷ p) = entriesIn p

@@ -28,8 +28,8 @@ use Rattle.tables.specs.Last.{closed-behind}
 use Rattle.tables.specs.Room.{Room}
 use Rattle.tables.specs.Tables.{closedLast}
 use Rattle.tables.specs.declared.Employer.{Employer}
-use Rattle.shape.specs.After.{opened, withOne, noTotals, oneEmployer, oneEmployee}
-use Rattle.meaning.specs.Before.{phaseIn, openIn, totalsIn, entryAtE, entriesIn}
+use Rattle.shape.specs.After.{opened, entryAtE, withOne, noTotals, oneEmployer, oneEmployee}
+use Rattle.meaning.specs.Before.{phaseIn, openIn, totalsIn, entriesIn}
 use Rattle.meaning.specs.FileLaws.{records-reversed, meaning-end, meaning-refuses, meaning-goes-on}
 use Rattle.meaning.specs.Forward.{recordsOf, employeesAfter, wagesOf, secondsOf, entryOf, employersOf, employeesOf, totalsOf}
 use Rattle.meaning.specs.Meaning.{contextAt, onEarlierE, underThisE, judgeAt, fileEdits, FileFinding, nothing, found, foundOn, firstOfFile, recordsOnto, accepted, outcomeBy, meaningFrom, meaning}

@@ -36,8 +36,18 @@ abbrev pub secondsOf : List EmployeeOn → ℕ
 secondsOf [] = 0
 secondsOf (employee ∷ employees) = employee .second + secondsOf employees
 
+-- The entry of an employer: what its E record says, with the number and the wages of these S records. "the amended flag, the final flag and the cease
+-- date" are those of the E record.
 abbrev pub entryOf : EmployerOn → List EmployeeOn → Employer
-entryOf employer employees = record { fein = employer .fein; count = length employees; cents = wagesOf employees }
+entryOf employer employees =
+    record {
+      fein = employer .fein;
+      count = length employees;
+      cents = wagesOf employees;
+      amended = employer .amended;
+      «final_return» = employer .«final_return»;
+      «cease_date» = employer .«cease_date»;
+    }
 
 -- "Then the employers reported are those of its E records, the counts and wage totals those of the S records under each."
 abbrev pub employersOf : List Said → List Employer

@@ -15,16 +15,16 @@ use Rattle.pfml.specs.declared.kind.Kind.the-variants.{Transmitter, Empl
 abbrev pub isSet : List ℕ → List ℕ → Bool
 isSet text field = eqb (valueAt text field) 1
 
--- A its year and period; E its FEIN, the flags 190, 187 and 282 and the cease date; S its identity number and its wages. There is no second amount.
+-- A its year and period; E its FEIN, whether 190 is 1, and as numbers the flags 187 and 282 and the cease date; S its identity number and its wages. There is no second amount.
 abbrev pub saidBy : Kind → List ℕ → Said
 saidBy Transmitter text = OfA (record { year = valueAt text yearOfA; month = valueAt text periodOfA })
 saidBy Employer text =
     OfE (record {
       fein = valueAt text feinOfE;
       follow = isSet text noWagesOfE;
-      amended = isSet text amendedOfE;
-      closing = isSet text finalOfE;
-      date = valueAt text ceaseDateOfE;
+      amended = valueAt text amendedOfE;
+      «final_return» = valueAt text finalOfE;
+      «cease_date» = valueAt text ceaseDateOfE;
     })
 saidBy Employee text = OfS (record { id = valueAt text identityOfS; wages = valueAt text wagesOfS; second = 0 })
 saidBy Total text = OfT

@@ -33,9 +33,9 @@ fn employer_on(line: &[u8]) -> Said
     Said::OfE(EmployerOn {
         fein: rows::value_at(line, FEIN_OF_E),
         follow: is_set(line, NO_WAGES_OF_E),
-        amended: is_set(line, AMENDED_OF_E),
-        closing: is_set(line, FINAL_OF_E),
-        date: rows::value_at(line, CEASE_DATE_OF_E),
+        amended: rows::value_at(line, AMENDED_OF_E),
+        final_return: rows::value_at(line, FINAL_OF_E),
+        cease_date: rows::value_at(line, CEASE_DATE_OF_E),
     })
 }
 

@@ -7,6 +7,7 @@ use edits::format::Format;
 use frames::Framed;
 use state::State;
 use tables::Employer;
+use tables::list;
 ghost use Prim.Native.Nat.{_+_, _-_, _≤_};
 ghost use lib.ListN.{length};
 
@@ -321,17 +322,13 @@ fn all_turns(
 }
 
 // Acknowledges what standard input holds, each input in this format. That it ends is all that can
-// be promised: no contract says what is read and written. The frames take 35 bytes for each of
-// 1,024 employers, and 35 more.
+// be promised: no contract says what is read and written. The frames take at most 47 bytes for each
+// of 1,024 employers, and 35 more.
 pub fn run(format: Format, telling: Telling) {
     let mut buf = [0u8; 524288];
     let mut ids = [0u32; 8192];
-    let none = Employer {
-        fein: 0,
-        count: 0,
-        cents: 0,
-    };
+    let none = list::AT_REST;
     let mut list = [none; 1024];
-    let mut out = [0u8; 35875];
+    let mut out = [0u8; 48163];
     all_turns(format, telling, &mut buf, &mut ids, &mut list, &mut out);
 }

@@ -1,5 +1,5 @@
-// The formats: the one place where code asks which format it is. Of a number that names none every
-// line is one of no record.
+// The formats: the one place where code asks which format a line is of. Of a number that names none
+// every line is one of no record.
 use calendar::Quarter;
 use edits::Context;
 use edits::Open;

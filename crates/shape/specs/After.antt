@@ -11,6 +11,7 @@ use Rattle.edits.specs.declared.Open.{Open}
 use Rattle.edits.specs.declared.Phase.{Phase}
 use Rattle.edits.specs.declared.Phase.the-variants.{AfterA, EOpen, AfterT, AfterF}
 use Rattle.edits.specs.declared.Totals.{Totals}
+use Rattle.tables.specs.declared.Employer.{Employer}
 use Rattle.shape.specs.declared.EmployeeOn.{EmployeeOn}
 use Rattle.shape.specs.declared.EmployerOn.{EmployerOn}
 use Rattle.shape.specs.declared.Said.{Said}
@@ -67,6 +68,19 @@ opened employer =
       noted = false;
       «account_head» = 0;
       «account_tail» = 0;
+    }
+
+-- The entry of the employer list that E begins. "The wage file's employer entry gains, at E, the amended flag, the final flag and the cease date as
+-- a number, zero if none"; "its count and cents (zero till then) at T".
+abbrev pub entryAtE : EmployerOn → Employer
+entryAtE employer =
+    record {
+      fein = employer .fein;
+      count = 0;
+      cents = 0;
+      amended = employer .amended;
+      «final_return» = employer .«final_return»;
+      «cease_date» = employer .«cease_date»;
     }
 
 abbrev pub withOne : EmployeeOn → Open → Open

@@ -13,14 +13,14 @@ ghost use Rattle.shape.specs.Shape.{asksNothing};
 // The most S records of a file.
 pub const MOST_EMPLOYEES: u64 = 100000;
 
-// An E record: its FEIN, whether S records follow, whether it amends a return, whether it closes
-// the business, and the cease date.
+// An E record: its FEIN, whether S records follow, and what its entry takes over: the flags of an
+// amended and of a final return, and the cease date, all 0 in a format that has none.
 pub struct EmployerOn {
     pub fein: u64,
     pub follow: bool,
-    pub amended: bool,
-    pub closing: bool,
-    pub date: u64,
+    pub amended: u64,
+    pub final_return: u64,
+    pub cease_date: u64,
 }
 
 // An S record: the identity number, the wages in cents, and a second amount in cents, 0 in a format

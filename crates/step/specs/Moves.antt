@@ -22,7 +22,7 @@ use Rattle.shape.specs.EndOfInput.{endEdits}
 use Rattle.shape.specs.declared.Said.{Said}
 use Rattle.shape.specs.declared.Said.the-variants.{OfA, OfE, OfS, OfT, OfF, OfNone}
 use Rattle.tables.specs.Room.{Room, entriesUsed}
-use Rattle.shape.specs.After.{phaseAfter, filedAfter, openAfter, usedAfter, totalsAfter}
+use Rattle.shape.specs.After.{phaseAfter, filedAfter, openAfter, entryAtE, usedAfter, totalsAfter}
 use Rattle.state.specs.Unfit.{unfit}
 use Rattle.state.specs.Walks.{Standing, reading, accepted, refused, Walk, phaseOf, walkOf, openedWalk, refusedWalk}
 use Rattle.step.specs.declared.Change.{Change}
@@ -100,11 +100,11 @@ walkAfter said walk =
     after walk (phaseAfter said (phaseOf (walk .standing))) (filedAfter said (walk .filed)) (openAfter said (walk .open))
     (totalsAfter said (walk .all)) (usedAfter said (walk .used))
 
--- What it writes: an E its FEIN after the entries so far; an S its identity number after those in use; a T the count and cents of the last entry, and
+-- What it writes: an E its entry after those so far; an S its identity number after those in use; a T the count and cents of the last entry, and
 -- the ids in use become zeros.
 abbrev pub changeBy : Said → Walk → Change
 changeBy (OfA quarter) walk = Nothing
-changeBy (OfE employer) walk = Opens (walk .all .employers) (employer .fein)
+changeBy (OfE employer) walk = Opens (walk .all .employers) (entryAtE employer)
 changeBy (OfS employee) walk = if eqb (employee .id) 0 then Nothing else Adds (walk .used) (employee .id)
 changeBy OfT walk = Closes (walk .used) (walk .all .employers - 1) (walk .open .count) (walk .open .sum)
 changeBy OfF walk = Nothing

@@ -6,7 +6,7 @@ use lib.ListN.{length, take, set, replicate}
 use Rattle.reason.specs.ReasonNumbers.{Notice}
 use Rattle.lines.specs.Lines.{Line}
 use Rattle.tables.specs.Room.{Tables, tables, roomOf}
-use Rattle.tables.specs.Tables.{noEmployer, opened, wiped, isAmong, closedAt, feinsOf}
+use Rattle.tables.specs.Tables.{noEmployer, wiped, isAmong, closedAt, feinsOf}
 use Rattle.tables.specs.declared.Employer.{Employer}
 use Rattle.edits.specs.declared.Opening.{Opening}
 use Rattle.state.specs.Walks.{Walk, walkOf}
@@ -26,14 +26,14 @@ pub record Out : Type 0 where
 abbrev pub idsAfter : Change → List ℕ → List ℕ
 idsAfter Nothing ids = ids
 idsAfter Clear ids = replicate (length ids) 0
-idsAfter (Opens at fein) ids = ids
+idsAfter (Opens at entry) ids = ids
 idsAfter (Adds at id) ids = set ids at id
 idsAfter (Closes used at count cents) ids = wiped 0 used ids
 
 abbrev pub listAfter : Change → List Employer → List Employer
 listAfter Nothing list = list
 listAfter Clear list = replicate (length list) noEmployer
-listAfter (Opens at fein) list = set list at (opened fein)
+listAfter (Opens at entry) list = set list at entry
 listAfter (Adds at id) list = list
 listAfter (Closes used at count cents) list = closedAt at count cents list
 

@@ -12,6 +12,7 @@ use reason::Refusal;
 use state::Stage;
 use state::State;
 use state::fitness;
+use tables::Employer;
 ghost use Prim.Native.Nat.{_<_};
 ghost use mathlib.Core.Path.{_≡_};
 ghost use Rattle.reason.specs.ReasonNumbers.{numberOf, noticeOf};
@@ -47,8 +48,8 @@ pub enum Change {
     Nothing,
     // Both tables zeroed, every entry.
     Clear,
-    // The employer list's entry at a place gets its FEIN.
-    Opens(usize, u64),
+    // The employer list gets an entry at a place.
+    Opens(usize, Employer),
     // The id table's entry at a place gets an identity number.
     Adds(usize, u32),
     // The first so many ids zeroed; the list's entry at a place gets its count and cents.

@@ -18,11 +18,12 @@ use shape::Verdict;
 use state::Stage;
 use state::State;
 use state::fitness;
+use tables::Employer;
 ghost use Prim.Native.Nat.{_<_};
 ghost use mathlib.Core.Bool.{false};
 ghost use mathlib.Core.Path.{_≡_};
 ghost use Rattle.lines.specs.Lines.{firstLine};
-ghost use Rattle.shape.specs.After.{withOne, oneEmployee};
+ghost use Rattle.shape.specs.After.{entryAtE, withOne, oneEmployee};
 ghost use Rattle.state.specs.Unfit.{unfit};
 ghost use Rattle.state.specs.Walks.{reading, walkOf};
 ghost use Rattle.step.specs.Moves.{movedBy, allWell, after as afterOf, goesOn, contextOf, byStanding, lineSeen};
@@ -67,6 +68,20 @@ fn transmitter(st: State, taken: usize, quarter: Quarter) -> Move
     moves(next, taken, Change::Nothing)
 }
 
+// The entry that E begins: no S record yet.
+fn entry_at_e(e: EmployerOn) -> Employer
+    ensures { λ r. ⌜ r ≡ entryAtE e ⌝ }
+{
+    Employer {
+        fein: e.fein,
+        count: 0,
+        cents: 0,
+        amended: e.amended,
+        final_return: e.final_return,
+        cease_date: e.cease_date,
+    }
+}
+
 // E
 fn employer(st: State, taken: usize, e: EmployerOn) -> Move
     requires { ⌜ Ready (walkOf st) (Said.OfE e) ⌝ }
@@ -94,7 +109,8 @@ fn employer(st: State, taken: usize, e: EmployerOn) -> Move
         notes: all.notes,
     };
     let next = after(st, Phase::EOpen, st.filed, open, totals, 0);
-    moves(next, taken, Change::Opens(all.employers as usize, e.fein))
+    let begun = Change::Opens(all.employers as usize, entry_at_e(e));
+    moves(next, taken, begun)
 }
 
 // The state with one S more, and so many ids in use.

@@ -14,12 +14,11 @@ use contract.Monad.{Fun}
 use types.Kit.{Given}
 use denote.Plain.{uint-tells, bool-tells, nothing-tells}
 use denote.Struct.Laws as LL
-use Rattle.tables.specs.Tables.{wiped, isAmong, noEmployer, opened, closed, feinsOf}
+use Rattle.tables.specs.Tables.{wiped, isAmong, noEmployer, closed, feinsOf}
 use Rattle.by_hand.proofs.Walk.{Callee, total}
 use Rattle.tables.proofs.Employer as T
 use Rattle.tables.proofs.Employer.Laws as T′
 use Rattle.tables.proofs.least as least-fn
-use Rattle.tables.proofs.list.opened_entry as opened-entry-fn
 use Rattle.tables.proofs.list.closed_entry as closed-entry-fn
 use Rattle.tables.proofs.list.put as put-fn
 use Rattle.tables.proofs.list.entry_at as entry-at-fn
@@ -29,9 +28,6 @@ use Rattle.tables.proofs.list.has_fein as has-fein-fn
 module _ {M : Type 1} {𝓤 : URA M} {H : Heap 𝓤} {A : Atoms 𝓤} (W : Given 𝓤 H A) (mem : Memory → SProp 𝓤) (run : Routine → Fun 𝓤) where
   abbrev pub least : Callee W
   least = total W least-fn.ended (least-fn.clauses 𝓤 H A mem run) (λ κs a g. id⊢ 𝓤 (emp 𝓤)) (λ κs a g r ws. r ≡ min (a .0) (a .1 .0)) (λ κs a g r ws. refl) (λ κs. vint w64) (λ κs. uint-tells w64)
-
-  abbrev pub opened-entry : Callee W
-  opened-entry = total W opened-entry-fn.ended (opened-entry-fn.clauses 𝓤 H A mem run) (λ κs a g. id⊢ 𝓤 (emp 𝓤)) (λ κs a g r ws. r ≡ opened (a .0)) (λ κs a g r ws. refl) (λ κs. LL.val T.the-type T′.the-laws) (λ κs. LL.tells T.the-type T′.the-laws)
 
   abbrev pub closed-entry : Callee W
   closed-entry = total W closed-entry-fn.ended (closed-entry-fn.clauses 𝓤 H A mem run) (λ κs a g. id⊢ 𝓤 (emp 𝓤)) (λ κs a g r ws. r ≡ closed (a .0) (a .1 .0) (a .1 .1 .0)) (λ κs a g r ws. refl) (λ κs. LL.val T.the-type T′.the-laws) (λ κs. LL.tells T.the-type T′.the-laws)

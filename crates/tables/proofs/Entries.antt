@@ -51,10 +51,10 @@ Shared κ x = ShrSlice (named 0) κ T.the-row .own x (sliceOf x ∷ [])
 
 -- an entry at rest is one
 pub at-rest : Is T.the-row noEmployer (vals noEmployer)
-at-rest = LL.owes T.the-type T′.the-laws noEmployer ((refl, lit< tt), ((refl, lit< tt), ((refl, lit< tt), tt)))
+at-rest = LL.owes T.the-type T′.the-laws noEmployer ((refl, lit< tt), ((refl, lit< tt), ((refl, lit< tt), ((refl, lit< tt), ((refl, lit< tt), ((refl, lit< tt), tt))))))
 
 -- a number in the list's bounds, times an entry's size, is an offset
-pub scaled : (i n : ℕ) → i < n → n * 24 < 2 ^ 63 → i * 24 < 2 ^ 64
+pub scaled : (i n : ℕ) → i < n → n * 48 < 2 ^ 63 → i * 48 < 2 ^ 64
 scaled i n l r = omega (arith, l, r)
 
 -- the open borrow of a share of the list
@@ -63,7 +63,7 @@ lookedAt x κ q q′ = fobor κ q (arr-parts (shares T.the-row) (length (x .now)
 
 module _ (x : RefT (List Employer)) (i : ℕ) where
   abbrev pub entryAt : Share → Employer → Fml
-  entryAt q e = cellAt q (T.the-row .mir) (vals e) (x .ptr .0) (place 24 (x .ptr .1) i)
+  entryAt q e = cellAt q (T.the-row .mir) (vals e) (x .ptr .0) (place 48 (x .ptr .1) i)
 
   abbrev pub othersAt : Share → Fml
   othersAt q = others (shares T.the-row) q (x .now) i (x .ptr .0) (x .ptr .1)
@@ -106,8 +106,8 @@ module _ {M : Type 1} {𝓤 : URA M} {H : Heap 𝓤} {A : Atoms 𝓤} {K : Type 
 
 module _ {M : Type 1} {𝓤 : URA M} {H : Heap 𝓤} {A : Atoms 𝓤} {K : Type 0} {W : Given 𝓤 H A} {Γ : List (Item 𝓤)} where
   -- the pointer to entry i, from the slice's pointer and the entry's offset
-  pub points : K → {E : Env 𝓤 H} {C : Calls 𝓤 H} {Λ : Loops 𝓤 H} {q : Post 𝓤 H} {p : ℕ} {slice off : Operand} {rest : Body} (b o i : ℕ) → Opd K W Γ E slice (vptr b o) → Opd K W Γ E off (vint w64 (i * 24))
-      → (n : ℕ) → nth 𝓤 H A n Γ ≡ ‵ (froom (spotOf 𝓤 H E p .0) (spotOf 𝓤 H E p .1) zero) → T (hasTy (spotOf 𝓤 H E p .0) (vptr b (place 24 o i)))
-      → Step K W (put 𝓤 H A n (‵ (fat fullShare (spotOf 𝓤 H E p .0) (spotOf 𝓤 H E p .1) zero (vptr b (place 24 o i)))) Γ) (runs C Λ E rest q) Γ (runs C Λ E (seq (assign (mir-place p []) (op2 offset slice off)) rest) q)
+  pub points : K → {E : Env 𝓤 H} {C : Calls 𝓤 H} {Λ : Loops 𝓤 H} {q : Post 𝓤 H} {p : ℕ} {slice off : Operand} {rest : Body} (b o i : ℕ) → Opd K W Γ E slice (vptr b o) → Opd K W Γ E off (vint w64 (i * 48))
+      → (n : ℕ) → nth 𝓤 H A n Γ ≡ ‵ (froom (spotOf 𝓤 H E p .0) (spotOf 𝓤 H E p .1) zero) → T (hasTy (spotOf 𝓤 H E p .0) (vptr b (place 48 o i)))
+      → Step K W (put 𝓤 H A n (‵ (fat fullShare (spotOf 𝓤 H E p .0) (spotOf 𝓤 H E p .1) zero (vptr b (place 48 o i)))) Γ) (runs C Λ E rest q) Γ (runs C Λ E (seq (assign (mir-place p []) (op2 offset slice off)) rest) q)
   points t {E} {p = p} {slice} {off} b o i sl of n e ty =
-      sets t (subst (λ (k : ℕ). Rv K W Γ E (op2 offset slice off) (vptr b k)) (sym (place-is 24 o i)) (bin t sl of tt)) n e (ty, tt)
+      sets t (subst (λ (k : ℕ). Rv K W Γ E (op2 offset slice off) (vptr b k)) (sym (place-is 48 o i)) (bin t sl of tt)) n e (ty, tt)

@@ -18,15 +18,19 @@ isAmong v (x ∷ xs) = eqb x v || isAmong v xs
 -- ---- the employer list
 -- An entry at rest.
 abbrev pub noEmployer : Employer
-noEmployer = record { fein = 0; count = 0; cents = 0 }
+noEmployer = record { fein = 0; count = 0; cents = 0; amended = 0; «final_return» = 0; «cease_date» = 0 }
 
--- An entry begun: no S record yet.
-abbrev pub opened : ℕ → Employer
-opened fein = record { fein = fein; count = 0; cents = 0 }
-
--- An entry done: its FEIN, with the count and the cents.
+-- An entry done: it gets the count and the cents, and keeps its other numbers.
 abbrev pub closed : Employer → ℕ → ℕ → Employer
-closed e count cents = record { fein = e .fein; count = count; cents = cents }
+closed e count cents =
+    record {
+      fein = e .fein;
+      count = count;
+      cents = cents;
+      amended = e .amended;
+      «final_return» = e .«final_return»;
+      «cease_date» = e .«cease_date»;
+    }
 
 -- The list with the entry at a place done.
 unfoldable pub closedAt : ℕ → ℕ → ℕ → List Employer → List Employer

@@ -1,22 +1,21 @@
-// The employer list: an entry holds a FEIN, a count and cents.
+// The employer list: an entry holds the six numbers of `Employer`.
 use crate::Employer;
 use crate::least;
 ghost use mathlib.Core.Path.{_≡_};
 ghost use lib.ListN.{take, set, getD};
-ghost use Rattle.tables.specs.Tables.{wiped, isAmong, noEmployer, feinsOf, opened, closed};
+ghost use Rattle.tables.specs.Tables.{wiped, isAmong, noEmployer, feinsOf, closed};
 
-// An entry begun: its FEIN, and no S record yet.
-pub fn opened_entry(fein: u64) -> Employer
-    ensures { λ r. ⌜ r ≡ opened fein ⌝ }
-{
-    Employer {
-        fein,
-        count: 0,
-        cents: 0,
-    }
-}
+// An entry at rest.
+pub const AT_REST: Employer = Employer {
+    fein: 0,
+    count: 0,
+    cents: 0,
+    amended: 0,
+    final_return: 0,
+    cease_date: 0,
+};
 
-// An entry done: its count and its cents, the FEIN kept.
+// An entry done: its count and its cents, and the other numbers kept.
 pub fn closed_entry(entry: Employer, count: u64, cents: u64) -> Employer
     ensures { λ r. ⌜ r ≡ closed entry count cents ⌝ }
 {
@@ -24,6 +23,9 @@ pub fn closed_entry(entry: Employer, count: u64, cents: u64) -> Employer
         fein: entry.fein,
         count,
         cents,
+        amended: entry.amended,
+        final_return: entry.final_return,
+        cease_date: entry.cease_date,
     }
 }
 
@@ -43,11 +45,7 @@ pub fn entry_at(list: &[Employer], at: usize) -> Employer
     if at < list.len() {
         return list[at];
     }
-    Employer {
-        fein: 0,
-        count: 0,
-        cents: 0,
-    }
+    AT_REST
 }
 
 // The first n entries at rest.
@@ -55,11 +53,7 @@ pub fn zero_first(list: &mut [Employer], n: usize)
     ensures { λ _. ⌜ now (list .exit) ≡ wiped noEmployer n (now (list .entry)) ⌝ }
 {
     let end = least(n, list.len());
-    let rest = Employer {
-        fein: 0,
-        count: 0,
-        cents: 0,
-    };
+    let rest = AT_REST;
     let mut i = 0;
     while i < end {
         list[i] = rest;

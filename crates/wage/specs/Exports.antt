@@ -87,7 +87,7 @@ placed out words t = if ltb (length words) wordCount then carried (stays 72 (wal
 
 -- The version of what callers rely on: the words of the state and the entries of the employer list.
 abbrev pub abiVersion : ℕ
-abiVersion = 1
+abiVersion = 2
 
 -- The format's number comes first.
 abbrev pub openingOf : ℕ → ℕ → ℕ → Opening

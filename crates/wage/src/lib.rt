@@ -181,7 +181,7 @@ fn tell_no_place(answer: &mut [u64]) -> u64
 pub extern "C" fn wage_abi_version() -> u64
     ensures { λ r. ⌜ r ≡ abiVersion ⌝ }
 {
-    1
+    2
 }
 
 fn opening(format: u64, year: u64, month: u64) -> Opening

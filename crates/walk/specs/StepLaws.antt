@@ -24,8 +24,8 @@ use Rattle.tables.specs.PadLaws.{pad-none, length-pad, take-pad, set-pad, wiped
 use Rattle.tables.specs.Room.{Room, Tables, tables, roomOf, entriesUsed}
 use Rattle.tables.specs.Tables.{noEmployer, feinsOf}
 use Rattle.tables.specs.declared.Employer.{Employer}
-use Rattle.shape.specs.After.{idsWith, usedAfter}
-use Rattle.meaning.specs.Before.{phaseIn, openIn, idsUnder, totalsIn, feinsIn, entryAtE, entriesIn}
+use Rattle.shape.specs.After.{entryAtE, idsWith, usedAfter}
+use Rattle.meaning.specs.Before.{phaseIn, openIn, idsUnder, totalsIn, feinsIn, entriesIn}
 use Rattle.meaning.specs.BeforeLaws.{entries-many, entries-feins}
 use Rattle.meaning.specs.Meaning.{contextAt}
 use Rattle.step.specs.Moves.{walkAfter, changeBy}

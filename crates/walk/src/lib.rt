@@ -22,15 +22,16 @@ ghost use Rattle.walk.specs.Writes.{noWrites, writesOf};
 ghost use Rattle.walk.specs.Calls.{wholeFile};
 ghost use Rattle.walk.specs.LineAndRun.{linesStep, nextPlace};
 
-// What is written into the employer list: the first so many entries zeroed, a FEIN at a place, a
-// count and cents at a place. A place past the end is none.
+// What is written into the employer list: the first so many entries zeroed, an entry at a place, a
+// count and cents at a place. A place past the end is none. The entry stands last, so that no place
+// after it is reckoned from its size.
 struct Writes {
     zeroed: usize,
     opened_at: usize,
-    fein: u64,
     closed_at: usize,
     count: u64,
     cents: u64,
+    entry: Employer,
 }
 
 fn no_writes(end: usize) -> Writes
@@ -39,10 +40,10 @@ fn no_writes(end: usize) -> Writes
     Writes {
         zeroed: 0,
         opened_at: end,
-        fein: 0,
         closed_at: end,
         count: 0,
         cents: 0,
+        entry: list::AT_REST,
     }
 }
 
@@ -55,27 +56,27 @@ fn writes_of(change: Change, end: usize) -> Writes
         Change::Clear => Writes {
             zeroed: end,
             opened_at: end,
-            fein: 0,
             closed_at: end,
             count: 0,
             cents: 0,
+            entry: list::AT_REST,
         },
-        Change::Opens(at, fein) => Writes {
+        Change::Opens(at, entry) => Writes {
             zeroed: 0,
             opened_at: at,
-            fein,
             closed_at: end,
             count: 0,
             cents: 0,
+            entry,
         },
         Change::Adds(_, _) => no_writes(end),
         Change::Closes(_, at, count, cents) => Writes {
             zeroed: 0,
             opened_at: end,
-            fein: 0,
             closed_at: at,
             count,
             cents,
+            entry: list::AT_REST,
         },
     }
 }
@@ -105,7 +106,7 @@ fn change_list(list: &mut [Employer], change: Change)
 {
     let w = writes_of(change, list.len());
     list::zero_first(list, w.zeroed);
-    list::put(list, w.opened_at, list::opened_entry(w.fein));
+    list::put(list, w.opened_at, w.entry);
     let old = list::entry_at(list, w.closed_at);
     list::put(list, w.closed_at, list::closed_entry(old, w.count, w.cents));
 }

@@ -54,12 +54,16 @@ pub fn frames(outcome: &Outcome) -> Vec<u8> {
     output
 }
 
-/// "01, FEIN (4 bytes), S count (4), cents (8), one for each employer"
+/// "01, FEIN (4 bytes), S count (4), cents (8), one for each employer". Document 02 (xiii): "The
+/// employer frame 01 becomes 02 with the flags (1 byte each) and the date (4 bytes) at its end".
 fn employer_frame(entry: &Entry) -> Vec<u8> {
-    let mut frame = vec![0x01];
+    let mut frame = vec![0x02];
     put(&mut frame, entry.fein, 4);
     put(&mut frame, entry.count, 4);
     put(&mut frame, entry.cents, 8);
+    put(&mut frame, entry.amended, 1);
+    put(&mut frame, entry.final_return, 1);
+    put(&mut frame, entry.cease_date, 4);
     frame
 }
 

@@ -20,6 +20,9 @@ fn used(room: Room) -> Tables {
         fein: 12_345_678,
         count: u64::MAX,
         cents: 7,
+        amended: 1,
+        final_return: u64::MAX,
+        cease_date: 3_312_026,
     };
     Tables {
         ids: vec![u32::MAX; room.ids],
@@ -76,7 +79,7 @@ fn check_end(
     match meaning {
         Outcome::Accepted(accepted) => {
             // "Acceptance leaves the employer list, in file order: FEIN, S count, cents; later
-            // entries zero."
+            // entries zero." "01's table rules hold for the longer entry".
             let mut wanted = Tables::zero(room);
             wanted.list[..accepted.entries.len()].copy_from_slice(&accepted.entries);
             let told = state.standing == Standing::Accepted

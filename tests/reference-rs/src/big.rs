@@ -50,7 +50,7 @@ fn one_employer(employees: Vec<(u64, u64)>) -> Draft {
     tidy(QUARTER, QUARTER, &[Employer { fein, employees }])
 }
 
-/// So many employers with no or one employee.
+/// So many employers with no or one employee, and with returns of every kind.
 fn employers(rng: &mut Rng, count: usize) -> Draft {
     let start = rng.below(100_000_000);
     let employ = |k: u64| Employer {
@@ -61,7 +61,15 @@ fn employers(rng: &mut Rng, count: usize) -> Draft {
         },
     };
     let list: Vec<Employer> = (0..count as u64).map(employ).collect();
-    tidy(QUARTER, QUARTER, &list)
+    let mut draft = tidy(QUARTER, QUARTER, &list);
+    for place in draft.places(b'E') {
+        let e = &mut draft.lines[place];
+        put_number(&mut e.text, 187, 187, rng.below(2));
+        if rng.one_in(3) {
+            put_final(&mut e.text, random_date(rng, QUARTER));
+        }
+    }
+    draft
 }
 
 /// Gives the last S this identity number.

@@ -14,11 +14,12 @@
 //!   employers 94-103 and cents 104-122, ids in use 123-132; it is of PFML, and what PFML does not
 //!   use is zero
 //! - `T`, another id and another entry: the id's place 2-3, the id 4-13, the entry's place 14-15, its
-//!   FEIN 16-25, count 26-35 and cents 36-54; a place after a table's end alters nothing
+//!   FEIN 16-25, count 26-35, cents 36-54, amended flag 55-64, final flag 65-74 and date 75-84; a
+//!   place after a table's end alters nothing
 //! - `X`, a line, lent a list of 65,540 entries: the state has 65,535 employers, or one or two more,
 //!   by the digit in 2; bytes
 //! - `R`, a record written: `T` or `F` in 2, the length of the slice lent 3-5, at most 300
-//! - `F`, the frames: entries lent 2-3, the length of the buffer lent 4-6, at most 500
+//! - `F`, the frames: entries lent 2-3, the length of the buffer lent 4-6, at most 700
 //! - `B`, a record built: `A`, `E` or `S` in 2, the length of the slice lent 3-5, at most 300; then
 //!   the values, at most 40, a comma before each; then the texts, at most 600 bytes, after a stroke
 //! - `G`, a field read: the record's letter 2, the field's number 3-22; the line, as bytes
@@ -110,7 +111,7 @@ impl Lent {
 }
 
 /// The longest buffer that the program can lend to a call for frames.
-pub const LONGEST_BUFFER: usize = 500;
+pub const LONGEST_BUFFER: usize = 700;
 
 /// The longest slice that the program can lend to a call that writes or builds a record.
 pub const LONGEST_SLICE: usize = 300;
@@ -231,7 +232,10 @@ impl Text {
             .number(altered.entry_at as u64, 2)
             .number(altered.entry.fein, 10)
             .number(altered.entry.count, 10)
-            .number(altered.entry.cents, 19);
+            .number(altered.entry.cents, 19)
+            .number(altered.entry.amended, 10)
+            .number(altered.entry.final_return, 10)
+            .number(altered.entry.cease_date, 10);
     }
 
     fn writing(&mut self, record: Written, length: usize) {
@@ -472,6 +476,9 @@ impl Columns<'_> {
                 fein: self.number(16, 25)?,
                 count: self.number(26, 35)?,
                 cents: self.number(36, 54)?,
+                amended: self.number(55, 64)?,
+                final_return: self.number(65, 74)?,
+                cease_date: self.number(75, 84)?,
             },
         })
     }
@@ -554,11 +561,7 @@ mod tests {
             id_at: 1,
             id: 4_294_967_295,
             entry_at: 99,
-            entry: Entry {
-                fein: 7,
-                count: 8,
-                cents: 9,
-            },
+            entry: Entry::plain(7, 8, 9).of_kind(10, 11, 9_999_999_999),
         };
         for (command, text) in [
             (Command::Open { format: 0, held, lent: LENT }, "O0000000000000000000002026060403"),
@@ -606,7 +609,8 @@ mod tests {
             ),
             (
                 Command::Tables(altered),
-                "T01429496729599000000000700000000080000000000000000009",
+                "T01429496729599000000000700000000080000000000000000009\
+                 000000001000000000119999999999",
             ),
             (
                 Command::State(state()),
@@ -641,7 +645,7 @@ mod tests {
         assert_eq!(Command::read(b"RS290"), None);
         assert_eq!(Command::read(b"RT301"), None);
         assert_eq!(Command::read(b"RT29"), None);
-        assert_eq!(Command::read(b"F03501"), None);
+        assert_eq!(Command::read(b"F03701"), None);
         assert_eq!(Command::read(b"BT290|"), None);
         assert_eq!(Command::read(b"BA301|"), None);
         assert_eq!(Command::read(b"BA290,|"), None);

@@ -34,14 +34,18 @@ fn accepted(state: &State, list: &[Entry]) -> Outcome {
     })
 }
 
-/// Of a FEIN or a count that only a caller can have put into the list, and that is too large for
-/// its four bytes, the low ones are told.
+/// Of a number that only a caller can have put into the list, and that is too large for its bytes,
+/// the low ones are told: four of a FEIN, a count and a date, one of a flag.
 fn low_bytes(entry: &Entry) -> Entry {
-    let low = |number: u64| number & u64::from(u32::MAX);
+    let four = |number: u64| number & u64::from(u32::MAX);
+    let one = |number: u64| number & u64::from(u8::MAX);
     Entry {
-        fein: low(entry.fein),
-        count: low(entry.count),
+        fein: four(entry.fein),
+        count: four(entry.count),
         cents: entry.cents,
+        amended: one(entry.amended),
+        final_return: one(entry.final_return),
+        cease_date: four(entry.cease_date),
     }
 }
 
@@ -56,7 +60,8 @@ mod tests {
         (answer, String::from_utf8(buffer).unwrap())
     }
 
-    /// By hand: two employers with 2 and 3 employees, 3.00 and 3.75.
+    /// By hand: two employers with 2 and 3 employees, 3.00 and 3.75; the first return is amended,
+    /// the second final, on 03312026 (hex 32899A).
     #[test]
     fn frames_in_each_phase() {
         let moments = in_each_phase();
@@ -64,14 +69,14 @@ mod tests {
             let (answer, buffer) = written(&moment.state, &moment.tables.list, 20);
             assert_eq!((answer, buffer), (Err(87), ".".repeat(20)));
         }
-        let frames = "0100BC614E00000002000000000000012C\n\
-                      010000004D000000030000000000000177\n\
+        let frames = "0200BC614E00000002000000000000012C010000000000\n\
+                      020000004D00000003000000000000017700010032899A\n\
                       00000000050000000200000000000002A3\n";
         let (state, list) = (&moments[5].state, &moments[5].tables.list);
-        assert_eq!(written(state, list, 105), (Ok(105), frames.to_string()));
+        assert_eq!(written(state, list, 129), (Ok(129), frames.to_string()));
         let more = format!("{frames}..");
-        assert_eq!(written(state, &list[..2], 107), (Ok(105), more));
-        assert_eq!(written(state, list, 104), (Err(88), ".".repeat(104)));
+        assert_eq!(written(state, &list[..2], 131), (Ok(129), more));
+        assert_eq!(written(state, list, 128), (Err(88), ".".repeat(128)));
         assert_eq!(written(state, &list[..1], 0), (Err(72), String::new()));
         let refusal = "FF2C000000060006\n";
         let state = &refused(44).state;
@@ -90,8 +95,12 @@ mod tests {
         list[0].fein = 9_999_999_999;
         list[0].count = (1 << 32) + 5;
         list[0].cents = u64::MAX;
-        let (answer, buffer) = written(&moments[5].state, &list, 105);
-        assert_eq!(answer, Ok(105));
-        assert_eq!(&buffer[..34], "01540BE3FF00000005FFFFFFFFFFFFFFFF");
+        list[0].amended = 256;
+        list[0].final_return = 511;
+        list[0].cease_date = (1 << 32) + 7;
+        let (answer, buffer) = written(&moments[5].state, &list, 129);
+        assert_eq!(answer, Ok(129));
+        let wanted = "02540BE3FF00000005FFFFFFFFFFFFFFFF00FF00000007";
+        assert_eq!(&buffer[..46], wanted);
     }
 }

@@ -272,7 +272,7 @@ impl Iterator for Cases {
 }
 
 /// A small file that uses what it can: one A, E, S, T and F, all three line ends, an account
-/// number, extensions, a final return, period 09.
+/// number, extensions, an amended and final return, period 09.
 pub fn sample() -> Draft {
     let quarter = Quarter::new(2025, 9);
     let employees = vec![(123_456_789, 1_234_567)];
@@ -280,6 +280,7 @@ pub fn sample() -> Draft {
     let mut draft = tidy(quarter, quarter, &[Employer { fein, employees }]);
     draft.lines[0].put(204, b"12");
     draft.lines[1].put(173, b"1234567890");
+    draft.lines[1].put(187, b"1");
     draft.lines[1].put(271, b"7");
     draft.lines[1].put(282, b"109302025");
     for (place, end) in [CRLF, LF, CR, CRLF, LF].into_iter().enumerate() {

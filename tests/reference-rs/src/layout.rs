@@ -169,9 +169,11 @@ pub const STATE: (usize, usize) = (139, 140);
 pub const YEAR_IN_A: (usize, usize) = (2, 5);
 pub const PERIOD_IN_A: (usize, usize) = (19, 20);
 pub const FEIN_IN_E: (usize, usize) = (6, 14);
+pub const AMENDED_IN_E: usize = 187;
 pub const PERIOD_IN_E: (usize, usize) = (188, 189);
 pub const S_FOLLOW_IN_E: usize = 190;
 pub const FINAL_IN_E: usize = 282;
+pub const CEASE_DATE_IN_E: (usize, usize) = (283, 290);
 pub const IDENTITY_IN_S: (usize, usize) = (2, 10);
 pub const WAGES_IN_S: (usize, usize) = (64, 77);
 

@@ -6,8 +6,9 @@
 //! - `reference cases SEED COUNT INPUTS EXPECTED [--small] [--all-bytes]`: writes COUNT inputs and
 //!   the outputs expected for them to two files (`framing` has their form), and prints how often
 //!   each number is the answer. `--small` leaves out the files that fill a table, `--all-bytes` adds
-//!   every byte value at every place of a small file. From 20,000 cases on it fails if a number
-//!   comes fewer than 20 times; 61 is left to the long files.
+//!   every byte value at every place of a small file. From 22,000 cases on it fails if a number
+//!   comes fewer than 20 times, or one of the four kinds of return (amended or not, final or not)
+//!   among the employers accepted; 61 is left to the long files.
 //! - `reference long SEED COUNT INPUTS EXPECTED`: the same with long files alone. From 40 cases on it
 //!   fails if 61 comes fewer than 20 times.
 //! - `reference pairs SEED COUNT INPUTS EXPECTED [--small]`: the same with COUNT pairs of inputs, one

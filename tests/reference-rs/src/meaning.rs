@@ -27,12 +27,40 @@ impl Room {
     }
 }
 
-/// An employer's entry: "FEIN, S count, cents".
+/// An employer's entry: "FEIN, S count, cents". Document 02 (xiii): "The wage file's employer entry
+/// gains, at E, the amended flag, the final flag and the cease date as a number, zero if none."
 #[derive(Clone, Copy, Debug, Default, PartialEq, Eq)]
 pub struct Entry {
     pub fein: u64,
     pub count: u64,
     pub cents: u64,
+    pub amended: u64,
+    pub final_return: u64,
+    pub cease_date: u64,
+}
+
+impl Entry {
+    /// Of a return that is neither amended nor final.
+    pub const fn plain(fein: u64, count: u64, cents: u64) -> Entry {
+        Entry {
+            fein,
+            count,
+            cents,
+            amended: 0,
+            final_return: 0,
+            cease_date: 0,
+        }
+    }
+
+    /// The same of another kind of return: amended, final, and the date of the latter.
+    pub const fn of_kind(self, amended: u64, final_return: u64, cease_date: u64) -> Entry {
+        Entry {
+            amended,
+            final_return,
+            cease_date,
+            ..self
+        }
+    }
 }
 
 /// What is told of an accepted file.
@@ -107,7 +135,21 @@ fn entry(e: &Record, behind: &[Record]) -> Entry {
         fein: fein_of(e),
         count: under.len() as u64,
         cents: under.iter().map(|s| wages_of(s)).sum(),
+        amended: digit_of(e, layout::AMENDED_IN_E),
+        final_return: digit_of(e, layout::FINAL_IN_E),
+        cease_date: cease_date_of(e),
     }
+}
+
+/// A flag, which is a digit in one column.
+fn digit_of(e: &Record, column: usize) -> u64 {
+    e.value(column, column)
+}
+
+/// The number that its eight digits MMDDYYYY read; zeros are none.
+fn cease_date_of(e: &Record) -> u64 {
+    let (first, last) = layout::CEASE_DATE_IN_E;
+    e.value(first, last)
 }
 
 fn fein_of(e: &Record) -> u64 {

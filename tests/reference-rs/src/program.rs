@@ -23,11 +23,7 @@ pub const KEPT: Room = Room {
 
 /// The list that `X` is lent, and what stands in each of its entries.
 const LONG_LIST: usize = 65_540;
-const LONG_LIST_ENTRY: Entry = Entry {
-    fein: 7,
-    count: 8,
-    cents: 9,
-};
+const LONG_LIST_ENTRY: Entry = Entry::plain(7, 8, 9).of_kind(10, 11, 12);
 /// `X` prints the entries from this one on.
 const LONG_LIST_TOLD_FROM: usize = 65_534;
 
@@ -299,11 +295,19 @@ fn printed_ids(ids: &[u32]) -> String {
 fn printed_entries(list: &[Entry]) -> String {
     let none = Entry::default();
     let used = list.iter().rposition(|e| *e != none).map_or(0, |p| p + 1);
-    let entries: Vec<String> = list[..used]
-        .iter()
-        .map(|e| format!("{}:{}:{}", e.fein, e.count, e.cents))
-        .collect();
+    let entries: Vec<String> = list[..used].iter().map(printed_entry).collect();
     entries.join(",")
+}
+
+/// Its six numbers, a colon between each two.
+fn printed_entry(entry: &Entry) -> String {
+    let (first, second) = (
+        [entry.fein, entry.count, entry.cents],
+        [entry.amended, entry.final_return, entry.cease_date],
+    );
+    let numbers = [first, second].concat();
+    let numbers: Vec<String> = numbers.iter().map(u64::to_string).collect();
+    numbers.join(":")
 }
 
 /// What the program prints for a whole script. What stands after the last end is no command.
@@ -331,6 +335,12 @@ mod tests {
     const QUARTER: Quarter = Quarter::new(2026, 3);
     const FEIN: u64 = 12_345_678;
 
+    /// 5 as the second id, and an entry of 7, 8, 9, 10, 11 and 12 as the third; how such a list is
+    /// told.
+    const ALTERED: &str =
+        "T01000000000502000000000700000000080000000000000000009000000001000000000110000000012";
+    const THIRD_ALTERED: &str = "0:0:0:0:0:0,0:0:0:0:0:0,7:8:9:10:11:12";
+
     /// What is printed for these commands, each without its end.
     fn printed_for(commands: &[Vec<u8>]) -> Vec<String> {
         let script: Vec<u8> = commands
@@ -349,14 +359,18 @@ mod tests {
         [text.as_bytes(), &line, end].concat()
     }
 
-    /// Everything here, and in the tests below, is typed by hand from the paper.
+    /// Everything here, and in the tests below, is typed by hand from the paper. The return is both
+    /// amended and final.
     #[test]
     fn a_walk_that_is_accepted() {
+        let mut e = record_e(QUARTER, FEIN, true, &AUGUSTA);
+        put(&mut e, 187, b"1");
+        put_final(&mut e, 3_312_026);
         let printed = printed_for(&[
             command("E0403"),
             command("O0000000000000000000002026060201"),
             with_line("L0201|", record_a(QUARTER, 1, &AUGUSTA), b"\n"),
-            with_line("L0201|", record_e(QUARTER, FEIN, true, &AUGUSTA), b"\r\nE"),
+            with_line("L0201|", e, b"\r\nE"),
             with_line(
                 "L0201|",
                 record_s(QUARTER, FEIN, 111_111_111, 123_456),
@@ -373,17 +387,18 @@ mod tests {
             "72 0 0 0 |0 0 0 0 0 0 0 0 0 0 0 0 0 0 0 0 0 0 0 0 0 0 0 0 0 0 0 ||",
             "0 0 0 0 |0 0 0 0 0 2026 6 0 0 0 0 0 0 0 0 0 0 0 0 0 0 0 0 0 0 0 0 ||",
             "0 0 0 291 |1 0 0 0 1 2026 6 2026 3 0 0 0 0 0 0 0 0 0 0 0 0 0 0 0 0 0 0 ||",
-            "0 0 0 292 |2 0 0 0 2 2026 6 2026 3 12345678 1 0 0 0 1 0 0 0 0 0 0 0 0 0 0 0 0 ||12345678:0:0",
+            "0 0 0 292 |2 0 0 0 2 2026 6 2026 3 12345678 1 0 0 0 1 0 0 0 0 0 0 0 0 0 0 0 0 \
+             ||12345678:0:0:1:1:3312026",
             "0 0 0 291 |2 0 0 0 3 2026 6 2026 3 12345678 1 1 123456 1 1 123456 1 0 0 0 0 0 0 0 0 0 0 \
-             |111111111|12345678:0:0",
+             |111111111|12345678:0:0:1:1:3312026",
             "0 0 0 291 |2 0 0 0 4 2026 6 2026 3 12345678 1 2 123500 2 1 123500 1 0 0 0 0 0 0 0 0 0 0 \
-             |111111111|12345678:0:0",
-            "0 0 0 291 |3 0 0 0 5 2026 6 2026 3 0 0 0 0 2 1 123500 0 0 0 0 0 0 0 0 0 0 0 ||12345678:2:123500",
-            "0 0 0 291 |4 0 0 0 6 2026 6 2026 3 0 0 0 0 2 1 123500 0 0 0 0 0 0 0 0 0 0 0 ||12345678:2:123500",
-            "0 0 0 0 |5 0 0 0 6 2026 6 2026 3 0 0 0 0 2 1 123500 0 0 0 0 0 0 0 0 0 0 0 ||12345678:2:123500",
-            "71 0 0 0 |5 0 0 0 6 2026 6 2026 3 0 0 0 0 2 1 123500 0 0 0 0 0 0 0 0 0 0 0 ||12345678:2:123500",
+             |111111111|12345678:0:0:1:1:3312026",
+            "0 0 0 291 |3 0 0 0 5 2026 6 2026 3 0 0 0 0 2 1 123500 0 0 0 0 0 0 0 0 0 0 0 ||12345678:2:123500:1:1:3312026",
+            "0 0 0 291 |4 0 0 0 6 2026 6 2026 3 0 0 0 0 2 1 123500 0 0 0 0 0 0 0 0 0 0 0 ||12345678:2:123500:1:1:3312026",
+            "0 0 0 0 |5 0 0 0 6 2026 6 2026 3 0 0 0 0 2 1 123500 0 0 0 0 0 0 0 0 0 0 0 ||12345678:2:123500:1:1:3312026",
+            "71 0 0 0 |5 0 0 0 6 2026 6 2026 3 0 0 0 0 2 1 123500 0 0 0 0 0 0 0 0 0 0 0 ||12345678:2:123500:1:1:3312026",
             // The list is lent too short for the one employer.
-            "72 0 0 0 |5 0 0 0 6 2026 6 2026 3 0 0 0 0 2 1 123500 0 0 0 0 0 0 0 0 0 0 0 ||12345678:2:123500",
+            "72 0 0 0 |5 0 0 0 6 2026 6 2026 3 0 0 0 0 2 1 123500 0 0 0 0 0 0 0 0 0 0 0 ||12345678:2:123500:1:1:3312026",
         ];
         assert_eq!(printed, wanted);
     }
@@ -504,7 +519,7 @@ mod tests {
     #[test]
     fn no_format() {
         let printed = printed_for(&[
-            command("T01000000000502000000000700000000080000000000000000009"),
+            command(ALTERED),
             command("O0000000000000000000902025090403"),
             command("L0403|A\n"),
             command("E0403"),
@@ -521,7 +536,7 @@ mod tests {
             command("K264"),
             command("O0000000000000000000902025050403"),
         ]);
-        let tables = "|0,5|0:0:0,0:0:0,7:8:9";
+        let tables = format!("|0,5|{THIRD_ALTERED}");
         let zeros = |count| "0 ".repeat(count);
         let opened = |number, format| {
             let (before, behind) = (zeros(15), zeros(9));
@@ -567,7 +582,7 @@ mod tests {
             "0 0 0 291 |2 0 0 0 6 2026 3 2026 3 12345678 1 3 123500 3 1 123500 2 \
              0 18 19 20 1 22 23 24 25 26 ||",
             "0 0 0 291 |3 0 0 0 7 2026 3 2026 3 0 0 0 0 3 1 123500 0 \
-             0 0 0 0 0 0 0 24 25 26 ||0:3:123500",
+             0 0 0 0 0 0 0 24 25 26 ||0:3:123500:0:0:0",
             "1 8 1 0 |6 1 8 1 0 0 0 0 0 0 0 0 0 0 0 0 0 0 0 0 0 0 0 0 0 0 0 ||",
         ];
         assert_eq!(printed, wanted);
@@ -576,7 +591,7 @@ mod tests {
     /// Both tables are zeroed as far as they are lent, again with each call; 70 touches nothing.
     #[test]
     fn refusals() {
-        let altered = "T01000000000502000000000700000000080000000000000000009";
+        let altered = ALTERED;
         let printed = printed_for(&[
             command("O0000000000000000000002026060403"),
             command(altered),
@@ -595,12 +610,13 @@ mod tests {
             "0 0 0 0 |0 0 0 0 0 2026 6 0 0 0 0 0 0 0 0 0 0 0 0 0 0 0 0 0 0 0 0 ||".to_string(),
             format!("{refused}||"),
             // The second id and the third entry are not lent.
-            format!("{refused}|0,5|0:0:0,0:0:0,7:8:9"),
+            format!("{refused}|0,5|{THIRD_ALTERED}"),
             format!("{refused}||"),
-            format!("{bad_quarter}|0,5|0:0:0,0:0:0,7:8:9"),
-            format!("{bad_quarter}|0,5|0:0:0,0:0:0,7:8:9"),
-            "5 1 1 0 |6 5 1 1 0 0 0 0 0 0 0 0 0 0 0 0 0 0 0 0 0 0 0 0 0 0 0 ||0:0:0,0:0:0,7:8:9"
-                .to_string(),
+            format!("{bad_quarter}|0,5|{THIRD_ALTERED}"),
+            format!("{bad_quarter}|0,5|{THIRD_ALTERED}"),
+            format!(
+                "5 1 1 0 |6 5 1 1 0 0 0 0 0 0 0 0 0 0 0 0 0 0 0 0 0 0 0 0 0 0 0 ||{THIRD_ALTERED}"
+            ),
         ];
         assert_eq!(printed, wanted);
     }
@@ -623,14 +639,16 @@ mod tests {
         };
         let state = Command::State(state).text();
         let printed = printed_for(&[state, e("0", 8), e("0", 7), e("1", 8), e("2", 8)]);
-        let entries = "7:8:9,7:8:9,7:8:9,7:8:9,7:8:9,7:8:9";
+        let entry = "7:8:9:10:11:12";
+        let (one, four, six) = (entry, [entry; 4].join(","), [entry; 6].join(","));
         let wanted = [
-            "0 0 0 291 |2 0 0 0 10 2026 6 2026 3 8 0 0 0 2 65536 300 0 0 0 0 0 0 0 0 0 0 0 \
-             |7:8:9,8:0:0,7:8:9,7:8:9,7:8:9,7:8:9"
-                .to_string(),
+            format!(
+                "0 0 0 291 |2 0 0 0 10 2026 6 2026 3 8 0 0 0 2 65536 300 0 0 0 0 0 0 0 0 0 0 0 \
+                 |{one},8:0:0:0:0:0,{four}"
+            ),
             "45 10 6 0 |6 45 10 6 0 0 0 0 0 0 0 0 0 0 0 0 0 0 0 0 0 0 0 0 0 0 0 |".to_string(),
             "63 10 6 0 |6 63 10 6 0 0 0 0 0 0 0 0 0 0 0 0 0 0 0 0 0 0 0 0 0 0 0 |".to_string(),
-            format!("72 0 0 0 |3 0 0 0 9 2026 6 2026 3 0 0 0 0 2 65537 300 0 0 0 0 0 0 0 0 0 0 0 |{entries}"),
+            format!("72 0 0 0 |3 0 0 0 9 2026 6 2026 3 0 0 0 0 2 65537 300 0 0 0 0 0 0 0 0 0 0 0 |{six}"),
         ];
         assert_eq!(printed, wanted);
     }

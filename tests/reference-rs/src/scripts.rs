@@ -309,8 +309,8 @@ mod tests {
             list: zeros.list.clone(),
         });
         // The second id; the thirteenth entry, which there is not.
-        let text = b"T01000000000512000000000000000000000000000000000000000#";
-        assert_eq!(script.text, text);
+        let text = ["T010000000005", "12", &"0".repeat(69), "#"].concat();
+        assert_eq!(script.text, text.as_bytes());
         assert_eq!(script.tables().ids[..3], [0, 5, 0]);
     }
 }

@@ -1,10 +1,11 @@
 //! What was made, counted by group and by answer.
 
 use crate::gen::{Case, Meant};
-use crate::meaning::Outcome;
+use crate::meaning::{Entry, Outcome};
 use std::collections::BTreeMap;
 
-/// A number that is promised comes at least so often.
+/// A number that is promised comes at least so often; where acceptance is, so does each kind of
+/// return among the employers of accepted files.
 pub const ENOUGH: u64 = 20;
 
 /// Every number that the program can answer; 0 stands for acceptance.
@@ -55,9 +56,44 @@ impl Numbers {
     }
 }
 
+/// The kinds of return, each with its flags: amended, final.
+const KINDS: [(&str, [u64; 2]); 4] = [
+    ("neither amended nor final", [0, 0]),
+    ("amended", [1, 0]),
+    ("final", [0, 1]),
+    ("amended and final", [1, 1]),
+];
+
+/// How many employers of accepted files had a return of each kind.
+#[derive(Default)]
+struct Kinds([u64; 4]);
+
+impl Kinds {
+    fn count(&mut self, entry: &Entry) {
+        let flags = [entry.amended, entry.final_return];
+        let place = KINDS.iter().position(|(_, kind)| *kind == flags);
+        self.0[place.expect("flags are 0 or 1")] += 1;
+    }
+
+    fn each(&self) -> impl Iterator<Item = (&'static str, u64)> + '_ {
+        KINDS
+            .iter()
+            .zip(self.0)
+            .map(|((name, _), times)| (*name, times))
+    }
+
+    fn check(&self) -> Result<(), String> {
+        match self.each().find(|(_, times)| *times < ENOUGH) {
+            Some((name, times)) => Err(format!("returns {name}: {times}, fewer than {ENOUGH}")),
+            None => Ok(()),
+        }
+    }
+}
+
 #[derive(Default)]
 pub struct Tally {
     bytes: u64,
+    kinds: Kinds,
     numbers: Numbers,
     groups: BTreeMap<&'static str, Numbers>,
     otherwise_than_meant: u64,
@@ -68,6 +104,9 @@ impl Tally {
         let number = number_of(outcome);
         self.bytes += case.input.len() as u64;
         self.numbers.count(number);
+        if let Outcome::Accepted(accepted) = outcome {
+            accepted.entries.iter().for_each(|e| self.kinds.count(e));
+        }
         self.groups.entry(case.group).or_default().count(number);
         if !is_as_meant(case.meant, outcome) {
             self.otherwise_than_meant += 1;
@@ -94,6 +133,9 @@ impl Tally {
             print!(" {:>10}", group.all());
         }
         println!("\n{} bytes of input", self.bytes);
+        for (name, times) in self.kinds.each() {
+            println!("{times} employers accepted with returns {name}");
+        }
         println!("{} otherwise than meant", self.otherwise_than_meant);
     }
 
@@ -102,6 +144,9 @@ impl Tally {
         self.print();
         if self.otherwise_than_meant > 0 {
             return Err("some case gets another answer than its maker meant".to_string());
+        }
+        if promised.contains(&0) {
+            self.kinds.check()?;
         }
         self.numbers.check(promised)
     }
@@ -124,6 +169,27 @@ mod tests {
     fn fifty_seven_answers() {
         // Acceptance, 1 to 8, 10 to 20, 30 to 65, and 70.
         assert_eq!(answers().count(), 1 + 8 + 11 + 36 + 1);
+    }
+
+    #[test]
+    fn nineteen_returns_of_a_kind_are_too_few() {
+        let mut kinds = Kinds::default();
+        for (_, [amended, final_return]) in KINDS {
+            for _ in 0..19 {
+                kinds.count(&Entry::plain(1, 0, 0).of_kind(amended, final_return, 0));
+            }
+        }
+        for (amended, final_return, told) in [
+            (0, 0, "neither amended nor final"),
+            (1, 0, "amended"),
+            (0, 1, "final"),
+            (1, 1, "amended and final"),
+        ] {
+            let wanted = format!("returns {told}: 19, fewer than 20");
+            assert_eq!(kinds.check(), Err(wanted));
+            kinds.count(&Entry::plain(1, 0, 0).of_kind(amended, final_return, 0));
+        }
+        assert_eq!(kinds.check(), Ok(()));
     }
 
     #[test]

@@ -5,6 +5,7 @@ mod building;
 mod calls;
 mod examples;
 mod generated;
+mod kinds;
 mod writing;
 
 use crate::calendar::Quarter;

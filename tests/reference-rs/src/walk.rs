@@ -362,14 +362,18 @@ fn take_a(state: &mut State, record: &Record) {
     state.open = OpenE::default();
 }
 
-/// "An employer's entry gets its FEIN at E, its count and cents (zero till then) at T." "Room in
-/// the id table is used again from each E on."
+/// "An employer's entry gets its FEIN at E, its count and cents (zero till then) at T." Document 02
+/// (xiii): the entry "gains, at E, the amended flag, the final flag and the cease date as a number,
+/// zero if none". "Room in the id table is used again from each E on."
 fn take_e(state: &mut State, list: &mut [Entry], record: &Record) {
     let fein = columns(record, layout::FEIN_IN_E);
     list[state.employers as usize] = Entry {
         fein,
         count: 0,
         cents: 0,
+        amended: u64::from(record.at(layout::AMENDED_IN_E) == b'1'),
+        final_return: u64::from(record.at(layout::FINAL_IN_E) == b'1'),
+        cease_date: columns(record, layout::CEASE_DATE_IN_E),
     };
     state.standing = Standing::Among(Phase::EOpen);
     state.employers += 1;
@@ -395,7 +399,7 @@ fn take_s(state: &mut State, ids: &mut [u32], record: &Record) {
 }
 
 /// "An employer's entry gets [...] its count and cents [...] at T." "When no E is open the id table
-/// is all zeros." 17: the first that are in use are zeroed, the FEIN is left.
+/// is all zeros." 17: the first that are in use are zeroed, the rest of the entry is left.
 fn take_t(state: &mut State, ids: &mut [u32], list: &mut [Entry]) {
     let entry = &mut list[state.employers as usize - 1];
     entry.count = state.open.s;

@@ -2,12 +2,26 @@
 
 use crate::edits::Refusal;
 
-/// "FEIN (4 bytes), S count (4), cents (8)"; the closing frame has S count, E count, cents.
+/// "FEIN (4 bytes), S count (4), cents (8)", and "the flags (1 byte each) and the date (4 bytes)".
 #[derive(Clone, Copy)]
 pub struct Entry {
-    pub first: u32,
-    pub second: u32,
+    pub fein: u32,
+    pub count: u32,
     pub cents: u64,
+    pub amended: u8,
+    pub final_return: u8,
+    pub cease_date: u32,
+}
+
+impl Entry {
+    pub const NONE: Entry = Entry {
+        fein: 0,
+        count: 0,
+        cents: 0,
+        amended: 0,
+        final_return: 0,
+        cease_date: 0,
+    };
 }
 
 const DIGITS: &[u8; 16] = b"0123456789ABCDEF";
@@ -29,12 +43,24 @@ fn put_line<const BYTES: usize>(out: &mut Vec<u8>, bytes: [u8; BYTES]) {
     out.push(b'\n');
 }
 
-/// "01, FEIN (4 bytes), S count (4), cents (8)", or 00 and the counts.
-pub fn put_entry(out: &mut Vec<u8>, kind: u8, entry: &Entry) {
-    let mut bytes = [kind; 17];
-    bytes[1..5].copy_from_slice(&entry.first.to_be_bytes());
-    bytes[5..9].copy_from_slice(&entry.second.to_be_bytes());
-    bytes[9..].copy_from_slice(&entry.cents.to_be_bytes());
+/// An employer's frame, 02.
+pub fn put_entry(out: &mut Vec<u8>, entry: &Entry) {
+    let mut bytes = [0x02; 23];
+    bytes[1..5].copy_from_slice(&entry.fein.to_be_bytes());
+    bytes[5..9].copy_from_slice(&entry.count.to_be_bytes());
+    bytes[9..17].copy_from_slice(&entry.cents.to_be_bytes());
+    bytes[17] = entry.amended;
+    bytes[18] = entry.final_return;
+    bytes[19..].copy_from_slice(&entry.cease_date.to_be_bytes());
+    put_line(out, bytes);
+}
+
+/// "00, S count (4), E count (4), cents (8)"
+pub fn put_closing(out: &mut Vec<u8>, employees: u32, employers: u32, cents: u64) {
+    let mut bytes = [0x00; 17];
+    bytes[1..5].copy_from_slice(&employees.to_be_bytes());
+    bytes[5..9].copy_from_slice(&employers.to_be_bytes());
+    bytes[9..].copy_from_slice(&cents.to_be_bytes());
     put_line(out, bytes);
 }
 

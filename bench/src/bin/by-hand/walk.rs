@@ -6,7 +6,7 @@ use crate::edits::{edit_input_end, edit_line, Before, Phase, Refusal, MOST_S};
 use crate::employee::{self, Pattern, LONGEST_LINE};
 use crate::employer;
 use crate::feins::{Feins, MOST_EMPLOYERS};
-use crate::frames::{put_entry, put_refusal, Entry};
+use crate::frames::{put_closing, put_entry, put_refusal, Entry};
 use crate::ids::Ids;
 use crate::layout::LENGTH;
 use crate::lines::first_line;
@@ -64,11 +64,7 @@ impl Walk {
             pattern: Pattern::new(),
             ids: Ids::new(),
             feins: Feins::new(),
-            list: [Entry {
-                first: 0,
-                second: 0,
-                cents: 0,
-            }; MOST_EMPLOYERS],
+            list: [Entry::NONE; MOST_EMPLOYERS],
             employers: 0,
         }
     }
@@ -207,7 +203,13 @@ impl Walk {
         self.pattern = Pattern::of(&self.period, &self.year, &self.open.digits);
         self.ids.begin();
         self.feins.put(fein);
-        self.list[self.employers].first = fein;
+        self.list[self.employers] = Entry {
+            fein,
+            amended: u8::from(line[186] == b'1'),
+            final_return: u8::from(line[281] == b'1'),
+            cease_date: value(&line[282..290]) as u32,
+            ..Entry::NONE
+        };
         self.employers += 1;
     }
 
@@ -228,26 +230,22 @@ impl Walk {
     fn take_t(&mut self) {
         self.phase = Phase::AfterT;
         let entry = &mut self.list[self.employers - 1];
-        entry.second = self.open.employees as u32;
+        entry.count = self.open.employees as u32;
         entry.cents = self.open.cents;
     }
 
     /// The answer to a file that ended so.
     pub fn frames(&self, outcome: Result<(), Refusal>) -> Vec<u8> {
-        let mut out = Vec::with_capacity(35 * (self.employers + 1));
+        let mut out = Vec::with_capacity(47 * self.employers + 35);
         if let Err(refusal) = outcome {
             put_refusal(&mut out, &refusal);
             return out;
         }
         for entry in &self.list[..self.employers] {
-            put_entry(&mut out, 1, entry);
+            put_entry(&mut out, entry);
         }
-        let all = Entry {
-            first: self.employees as u32,
-            second: self.employers as u32,
-            cents: self.cents,
-        };
-        put_entry(&mut out, 0, &all);
+        let (employees, employers) = (self.employees as u32, self.employers as u32);
+        put_closing(&mut out, employees, employers, self.cents);
         out
     }
 }

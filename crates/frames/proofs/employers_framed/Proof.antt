@@ -24,18 +24,18 @@ returns c = let unfit = sym (c .before .is-unfit .ensures) ∙ c .if1 .taken in 
 
 accepted-employers-requires : tie.Need-accepted-employers-requires
 accepted-employers-requires c κs =
-    let fit = c .before .before .before in
+    let fit = c .before .before .before .before in
     omega (arith, fit-file _ (walkOf (fit .before .before .args .st)) (sym (fit .before .is-unfit .ensures) ∙ fit .if1 .left) .employers)
 
 returns-2 : tie.Need-returns-2
 unfolding employersFramed
 returns-2 c =
-    let test = c .before in
+    let test = c .before .before in
     let fit = test .before .before .before in
     let args = fit .before .before .args in
     let told = is-accepted (standingOf (args .st .stage)) (sym (test .before .is-accepted .ensures) ∙ test .if2 .taken) in
     let fits = sym (fit .before .is-unfit .ensures) ∙ fit .if1 .left in
-    rw (fits, told) (c .accepted-employers .ensures)
+    rw (fits, told, ← c .before .held-format .ensures) (c .accepted-employers .ensures)
 
 returns-3 : tie.Need-returns-3
 unfolding employersFramed
@@ -49,4 +49,4 @@ pub employers-framed-spec : {M : Type 1} → statement M
 employers-framed-spec =
     tie.close
     (tie.spec
-    (λ c κs. search needs) returns (λ c κs. search needs) accepted-employers-requires returns-2 returns-3)
+    (λ c κs. search needs) returns (λ c κs. search needs) (λ c κs. search needs) accepted-employers-requires returns-2 returns-3)

@@ -33,18 +33,19 @@ returns c = let unfit = sym (c .before .is-unfit .ensures) ∙ c .if1 .taken in 
 
 accepted-requires : tie.Need-accepted-requires
 accepted-requires c κs =
-    let fit = c .before .before .before .before in
+    let fit = c .before .before .before .before .before in
     omega (arith, fit-file _ (walkOf (fit .before .before .before .args .st)) (sym (fit .before .is-unfit .ensures) ∙ fit .if1 .left) .employers)
 
 returns-2 : tie.Need-returns-2
 unfolding lastFraming
 returns-2 c =
-    let test = c .before .before .before .before in
+    let test = c .before .before .before .before .before in
     let fit = test .before .before .before in
     let args = fit .before .before .before .args in
     let told = is-accepted (standingOf (args .st .stage)) (sym (test .before .is-accepted .ensures) ∙ test .if2 .taken) in
     let fits = sym (fit .before .is-unfit .ensures) ∙ fit .if1 .left in
-    rw (fits, told) (c .before .before .accepted .ensures)
+    let format = c .before .before .before .before .held-format .ensures in
+    rw (fits, told, ← format) (c .before .before .accepted .ensures)
 
 returns-3 : tie.Need-returns-3
 unfolding lastFraming
@@ -67,5 +68,5 @@ pub last-frame-spec : {M : Type 1} → statement M
 last-frame-spec =
     tie.close
     (tie.spec
-    (λ c κs. search needs) returns (λ c κs. search needs) accepted-requires (λ c. search needs) returns-2 (λ c. search needs) returns-3
+    (λ c κs. search needs) returns (λ c κs. search needs) (λ c κs. search needs) accepted-requires (λ c. search needs) returns-2 (λ c. search needs) returns-3
     (λ c κs. search needs) (λ c. search needs) returns-4)

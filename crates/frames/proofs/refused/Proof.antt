@@ -1,4 +1,4 @@
--- `frames::refused` meets its contract: part behind part.
+-- `frames::refused` meets its contract: part after part.
 use mathlib.Core.Path.{sym, _∙_}
 use native.Mathlib.Omega.{arith}
 use borrow.Author.Needs.{needs}
@@ -8,6 +8,8 @@ use Rattle.frames.proofs.refused.Statement.{statement}
 use Rattle.frames.proofs.refused.Tie as tie
 use Rattle.frames.specs.FrameLaws.{refusal-length, frame-written, too-small, fits}
 use Rattle.frames.specs.Frames.{refusalFrame}
+use Rattle.frames.specs.Hex.{hex}
+use Rattle.frames.specs.HexLaws.{hex-length}
 
 returns : tie.Need-returns
 returns c = sym (too-small (refusalFrame (noticeOf (c .before .before .args .refusal))) _ 17 (refusal-length _) (c .if1 .taken))
@@ -33,7 +35,8 @@ returns-2 c =
     let room = test .if1 .left in
     let number = rw (second .before .number-of .ensures) at (second .put-hex2 .ensures) in
     let written =
-    frame-written 0 255 (says .number) (says .line) (says .column) 2 2 8 4 (args .out .now) _ _ _ _ room
+    frame-written 0 2 2 8 (hex 2 255) (hex 2 (says .number)) (hex 8 (says .line)) (hex 4 (says .column)) (args .out .now) _ _ _ _
+    (hex-length 2 255) (hex-length 2 (says .number)) (hex-length 8 (says .line)) 4 (hex-length 4 (says .column)) room
     (first .put-hex .ensures) number (third .put-hex3 .ensures) (fourth .put-hex4 .ensures) in
     fits (refusalFrame says) (args .out .now) 17 (refusal-length says) _ room written
 

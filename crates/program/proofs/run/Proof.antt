@@ -31,7 +31,7 @@ use Rattle.program.proofs.run.Statement as stated
 
 -- how many elements the arrays have
 abbrev sizes : Sizes
-sizes = record { n₀ = 524288; n₁ = 8192; n₂ = 1024; n₃ = 35875; room₀ = (lit< tt, lit< tt); room₁ = (lit< tt, lit< tt); room₂ = (lit< tt, lit< tt); room₃ = (lit< tt, lit< tt) }
+sizes = record { n₀ = 524288; n₁ = 8192; n₂ = 1024; n₃ = 48163; room₀ = (lit< tt, lit< tt); room₁ = (lit< tt, lit< tt); room₂ = (lit< tt, lit< tt); room₃ = (lit< tt, lit< tt) }
 
 abbrev ends : Ends (f.ended .signature .params) (f.ended .kept)
 ends = (gone (λ κs x f. refl), (gone (λ κs x f. refl), tt))
@@ -55,9 +55,9 @@ module _ {M : Type 1} (𝓤 : URA M) (H : Heap 𝓤) (A : Atoms 𝓤) (W : Given
   walk : Sq W (locals En (none ∷ some (format-val format) ∷ some (telling-val telling) ∷ []) []) (runs (𝓣 .C) (𝓣 .Λ) En (code.function .body) (atRet En Post))
   walk =
       sets-array ! u8 0 (refl, lit< tt) (uint-lawful 𝓤 H A W w8) 524288 (lit ! tt) 26 refl refl $ sets-array ! u32 0 (refl, lit< tt) (uint-lawful 𝓤 H A W w32) 8192 (lit ! tt) 24 refl refl $
-      sets ! (agg ! (and-then ! (lit ! tt) (and-then ! (lit ! tt) (and-then ! (lit ! tt) (no-more !))))) 22 refl (LL.lawful T.the-type T′.the-laws 𝓤 H A W .typed noEmployer _ at-rest .0) $
+      sets ! (agg ! (and-then ! (lit ! tt) (and-then ! (lit ! tt) (and-then ! (lit ! tt) (and-then ! (lit ! tt) (and-then ! (lit ! tt) (and-then ! (lit ! tt) (no-more !)))))))) 22 refl (LL.lawful T.the-type T′.the-laws 𝓤 H A W .typed noEmployer _ at-rest .0) $
       sets-array ! T.the-row noEmployer at-rest (LL.lawful T.the-type T′.the-laws 𝓤 H A W) 1024 (var ! 22 refl) 20 refl refl $
-      sets-array ! u8 0 (refl, lit< tt) (uint-lawful 𝓤 H A W w8) 35875 (lit ! tt) 18 refl refl $
+      sets-array ! u8 0 (refl, lit< tt) (uint-lawful 𝓤 H A W w8) 48163 (lit ! tt) 18 refl refl $
       sets ! (addr ! (from ! (stop !))) 14 refl (tt, tt) $ sets ! (agg ! (and-then ! (var ! 14 refl) (and-then ! (big-lit ! (record { fits = lit< tt })) (no-more !)))) 12 refl (tt, (tt, (record { fits = lit< tt }, tt))) $
       sets ! (addr ! (from ! (stop !))) 10 refl (tt, tt) $ sets ! (agg ! (and-then ! (var ! 10 refl) (and-then ! (big-lit ! (record { fits = lit< tt })) (no-more !)))) 8 refl (tt, (tt, (record { fits = lit< tt }, tt))) $
       sets ! (addr ! (from ! (stop !))) 6 refl (tt, tt) $ sets ! (agg ! (and-then ! (var ! 6 refl) (and-then ! (big-lit ! (record { fits = lit< tt })) (no-more !)))) 4 refl (tt, (tt, (record { fits = lit< tt }, tt))) $
@@ -69,8 +69,8 @@ module _ {M : Type 1} (𝓤 : URA M) (H : Heap 𝓤) (A : Atoms 𝓤) (W : Given
           (ν₀ ∷ [], (ν₁ ∷ [], (ν₂ ∷ [], (ν₃ ∷ [], tt)))),
           (fullShare, (fullShare, (fullShare, (fullShare, tt)))),
           tt,
-          (format, (telling, (array-at (at 3) γ₀ (replicate 524288 0), (array-at (at 4) γ₁ (replicate 8192 0), (array-at (at 6) γ₂ (replicate 1024 noEmployer), (array-at (at 7) γ₃ (replicate 35875 0), tt)))))),
-          (format-val format ∷ [], (telling-val telling ∷ [], (sliceVal (at 3, 0) 524288 ∷ [], (sliceVal (at 4, 0) 8192 ∷ [], (sliceVal (at 6, 0) 1024 ∷ [], (sliceVal (at 7, 0) 35875 ∷ [], tt)))))),
+          (format, (telling, (array-at (at 3) γ₀ (replicate 524288 0), (array-at (at 4) γ₁ (replicate 8192 0), (array-at (at 6) γ₂ (replicate 1024 noEmployer), (array-at (at 7) γ₃ (replicate 48163 0), tt)))))),
+          (format-val format ∷ [], (telling-val telling ∷ [], (sliceVal (at 3, 0) 524288 ∷ [], (sliceVal (at 4, 0) 8192 ∷ [], (sliceVal (at 6, 0) 1024 ∷ [], (sliceVal (at 7, 0) 48163 ∷ [], tt)))))),
         ),
         tt,
       ) tt

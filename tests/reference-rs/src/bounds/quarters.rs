@@ -1,7 +1,7 @@
 //! Years, periods, quarters and cease dates.
 
 use super::{refused, List, Q1};
-use crate::calendar::Quarter;
+use crate::calendar::{days_in, Quarter};
 use crate::draft::*;
 use crate::gen::Meant;
 
@@ -12,6 +12,8 @@ pub fn add(list: &mut List) {
     quarters_of_a(list);
     list.name("final returns");
     final_returns(list);
+    list.name("kinds of return");
+    kinds_of_return(list);
     list.name("quarters held");
     quarters_held(list);
     list.name("quarters of e and s");
@@ -183,6 +185,45 @@ fn periods(list: &mut List) {
             list.add_unless(&draft, refusal);
         }
     }
+}
+
+/// Two employers, with and without S records, of every two kinds of return: amended or not, and not
+/// final, or final on the first or the last day of the quarter; in the last closed quarter and, if
+/// both are final, in the current one.
+fn kinds_of_return(list: &mut List) {
+    for held in MONTHS.map(|month| Quarter::new(2026, month)) {
+        for quarter in [Some(held), held.current_after()].into_iter().flatten() {
+            let (month, year) = (quarter.month, quarter.year);
+            let first = (month - 2) * 1_000_000 + 10_000 + year;
+            let last = month * 1_000_000 + days_in(month, year) * 10_000 + year;
+            let dates = if quarter == held {
+                vec![0, first, last]
+            } else {
+                vec![first, last]
+            };
+            let of_date = |date: &u64| [(0, *date), (1, *date)];
+            let kinds: Vec<(u64, u64)> = dates.iter().flat_map(of_date).collect();
+            for one in &kinds {
+                for other in &kinds {
+                    list.add(&of_kinds(held, quarter, [*one, *other]), Meant::Accepted);
+                }
+            }
+        }
+    }
+}
+
+/// Each kind is the amended flag, and the date of a final return or 0.
+fn of_kinds(held: Quarter, quarter: Quarter, kinds: [(u64, u64); 2]) -> Draft {
+    let employ = |fein, employees| Employer { fein, employees };
+    let employers = [employ(11, vec![(5, 7)]), employ(22, Vec::new())];
+    let mut draft = tidy(held, quarter, &employers);
+    for (place, (amended, date)) in draft.places(b'E').into_iter().zip(kinds) {
+        let e = &mut draft.lines[place];
+        e.put_number(187, 187, amended);
+        e.put_number(282, 282, u64::from(date != 0));
+        e.put_number(283, 290, date);
+    }
+    draft
 }
 
 /// A file whose one employer gives a final return on this date, MMDDYYYY.

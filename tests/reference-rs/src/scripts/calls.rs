@@ -64,7 +64,7 @@ pub fn some_writing(rng: &mut Rng, script: &mut Script) {
 /// Frames, mostly into a buffer that is large enough for those of a walk that has ended.
 pub fn some_frames(rng: &mut Rng, script: &mut Script) {
     let employers = script.state().employers.min(12) as usize;
-    let bound = 35 * employers + 35;
+    let bound = 47 * employers + 35;
     let some_length = rng.index(LONGEST_BUFFER + 1);
     let length = rng.pick(&[bound, bound, LONGEST_BUFFER, bound - 1, 17, some_length]);
     script.frames(rng.pick(&[0, 2, 3, 3, 12]), length);

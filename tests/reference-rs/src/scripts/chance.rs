@@ -100,6 +100,9 @@ fn alter_tables(rng: &mut Rng, script: &mut Script, rest: &[u8]) {
         fein: rng.pick(&[fein, 0, 9_999_999_999, next_columns(rest, 6, 14)]),
         count: rng.below(100_000),
         cents: rng.next() >> 1,
+        amended: rng.pick(&[0, 1, 1, 2, 256]),
+        final_return: rng.pick(&[0, 1, 1, 2, 256]),
+        cease_date: rng.pick(&[0, 3_312_026, 99_999_999, 9_999_999_999]),
     };
     script.set_tables(&tables);
 }

@@ -87,7 +87,7 @@ fn every_number(rng: &mut Rng, script: &mut Script, moment: &Moment) {
         script.set(moment);
         script.word(FORMAT, number);
         script.write(record_for(rng, moment.state.standing), LENGTH);
-        script.frames(LENT.employers, 105);
+        script.frames(LENT.employers, 129);
         script.end();
         script.line(short_line(rng));
     }

@@ -11,8 +11,8 @@ use crate::tables::Tables;
 use crate::walk::{OpenE, Standing, State};
 
 /// Around the lengths of a refusal's frame and of those of none, one, two and twelve employers.
-const LENGTHS: [usize; 17] = [
-    0, 1, 16, 17, 18, 34, 35, 36, 69, 70, 104, 105, 106, 454, 455, 456, 500,
+const LENGTHS: [usize; 19] = [
+    0, 1, 16, 17, 18, 34, 35, 36, 46, 47, 81, 82, 128, 129, 130, 598, 599, 600, 700,
 ];
 
 pub fn add(scenes: &mut Vec<Scene>) {
@@ -69,6 +69,9 @@ fn accepted_with(rng: &mut Rng, script: &mut Script, employers: u64) {
         fein: rng.pick(&[0, 999_999_999, 4_294_967_295, 4_294_967_296, 9_999_999_999]),
         count: rng.pick(&[0, 100_000, 4_294_967_295, 4_294_967_296, 9_999_999_999]),
         cents: rng.pick(&[0, 99_999_999_999_999, 9_999_999_999_999_999_999]),
+        amended: rng.pick(&[0, 1, 2, 255, 256, 257, 9_999_999_999]),
+        final_return: rng.pick(&[0, 1, 2, 255, 256, 257, 9_999_999_999]),
+        cease_date: rng.pick(&[0, 12_319_999, 4_294_967_295, 4_294_967_296, 9_999_999_999]),
     };
     script.set_tables(&Tables {
         ids: Vec::new(),
@@ -96,7 +99,7 @@ fn no_table_lent(script: &mut Script) {
                 standing,
                 ..accepted()
             });
-            script.frames(2, 105);
+            script.frames(2, 129);
         }
     }
 }
@@ -106,7 +109,7 @@ fn altered(rng: &mut Rng, script: &mut Script) {
     let mut state = accepted();
     near::alter(rng, &mut state);
     script.set_state(state);
-    script.frames(rng.pick(&[1, 2, 3, 12]), rng.pick(&[17, 104, 105, 500]));
+    script.frames(rng.pick(&[1, 2, 3, 12]), rng.pick(&[17, 128, 129, 700]));
 }
 
 /// The frames after a whole file, accepted and refused.

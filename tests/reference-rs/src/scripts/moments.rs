@@ -51,7 +51,8 @@ pub const HELD: Quarter = Quarter::new(2026, 6);
 /// A's in `base`.
 pub const QUARTER: Quarter = Quarter::new(2026, 3);
 
-/// Two employers, of two and of three employees, one of them applied for.
+/// Two employers, of two and of three employees, one of them applied for. The first return is
+/// amended, the second final.
 pub fn base() -> Draft {
     let employers = [
         Employer {
@@ -63,7 +64,10 @@ pub fn base() -> Draft {
             employees: vec![(333_333_333, 300), (0, 50), (444_444_444, 25)],
         },
     ];
-    tidy(HELD, QUARTER, &employers)
+    let mut draft = tidy(HELD, QUARTER, &employers);
+    draft.lines[1].put(187, b"1");
+    draft.lines[5].put(282, b"103312026");
+    draft
 }
 
 /// The walk over `base` in each of the seven phases; with an E open it is the second, with all of
@@ -113,9 +117,11 @@ pub fn after_t() -> Moment {
 
 /// Some content for tables that a walk left with zeros.
 pub fn content() -> Tables {
-    let entry = |fein, count, cents| Entry { fein, count, cents };
     Tables {
         ids: vec![5, 4_294_967_295, 0, 7],
-        list: vec![entry(12_345_678, 2, 300), entry(9, 8, 7)],
+        list: vec![
+            Entry::plain(12_345_678, 2, 300).of_kind(1, 0, 0),
+            Entry::plain(9, 8, 7).of_kind(6, 5, 4),
+        ],
     }
 }

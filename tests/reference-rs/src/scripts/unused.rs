@@ -56,7 +56,7 @@ fn other_calls(rng: &mut Rng, script: &mut Script, moment: &Moment) {
     script.set(moment);
     fill(rng, script);
     script.write(record_for(rng, moment.state.standing), LENGTH);
-    script.frames(LENT.employers, 105);
+    script.frames(LENT.employers, 129);
     script.end();
     script.end();
     script.set(moment);

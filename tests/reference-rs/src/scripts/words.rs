@@ -67,7 +67,7 @@ fn altered(rng: &mut Rng, script: &mut Script, moment: &Moment, at: usize, numbe
     script.set(moment);
     script.word(at, number);
     script.write(record_for(rng, moment.state.standing), LENGTH);
-    script.frames(LENT.employers, 105);
+    script.frames(LENT.employers, 129);
     match rng.one_in(2) {
         true => script.line(&line_for(rng, &moment.state, &moment.tables)),
         false => script.end(),
@@ -148,7 +148,7 @@ fn every_call(rng: &mut Rng, script: &mut Script, moment: &Moment, lent: Lent) {
     script.lend(lent);
     line_then_end(rng, script, moment);
     script.set(moment);
-    script.frames(LENT.employers, 105);
+    script.frames(LENT.employers, 129);
     script.write(record_for(rng, moment.state.standing), LENGTH);
     script.set_tables(&content());
     match rng.below(4) {

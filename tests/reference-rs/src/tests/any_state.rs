@@ -186,13 +186,20 @@ fn assert_entries(letter: u8, before: &Side, after: &Side) {
     let employers = before.state.employers as usize;
     for (place, (old, new)) in before.list.iter().zip(&after.list).enumerate() {
         let wanted = match letter {
-            b'E' if place == employers => (after.state.open.fein, 0, 0),
-            b'T' if place + 1 == employers => {
-                (old.fein, before.state.open.s, before.state.open.cents)
+            // The flags and the date are the line's, and are looked at elsewhere.
+            b'E' if place == employers => {
+                assert!(new.amended <= 1 && new.final_return == u64::from(new.cease_date != 0));
+                let plain = Entry::plain(after.state.open.fein, 0, 0);
+                plain.of_kind(new.amended, new.final_return, new.cease_date)
             }
-            _ => (old.fein, old.count, old.cents),
+            b'T' if place + 1 == employers => Entry {
+                count: before.state.open.s,
+                cents: before.state.open.cents,
+                ..*old
+            },
+            _ => *old,
         };
-        assert_eq!((new.fein, new.count, new.cents), wanted);
+        assert_eq!(*new, wanted);
     }
 }
 

@@ -32,10 +32,15 @@ pub fn e_open() -> (State, Vec<u32>, Vec<Entry>) {
         },
         unused: Unused::default(),
     };
-    let entry = |fein, count, cents| Entry { fein, count, cents };
-    let list = vec![entry(11, 1, 100), entry(77, 5, 6), entry(8, 8, 8)];
-    (state, vec![21, 22, 23, 24], list)
+    (state, vec![21, 22, 23, 24], OF_E_OPEN.to_vec())
 }
+
+/// No walk leaves the second with numbers of its S records, nor the third with any number.
+const OF_E_OPEN: [Entry; LIST] = [
+    Entry::plain(11, 1, 100).of_kind(1, 0, 0),
+    Entry::plain(77, 5, 6).of_kind(4, 3, 2),
+    Entry::plain(8, 8, 8).of_kind(8, 8, 8),
+];
 
 /// Line and end call both answer 72 and change nothing.
 fn assert_unfit(change: impl Fn(&mut State)) {
@@ -308,7 +313,7 @@ fn with_end(text: Vec<u8>) -> Vec<u8> {
     [text, b"\r\nrest".to_vec()].concat()
 }
 
-/// T keeps the entry's FEIN, sets count and cents, and zeroes the ids in use and no others.
+/// T sets count and cents, keeps the entry's other numbers, and zeroes the ids in use, no others.
 #[test]
 fn a_total_in_an_altered_walk() {
     let (mut state, mut ids, mut list) = e_open();
@@ -316,12 +321,9 @@ fn a_total_in_an_altered_walk() {
     let bytes = with_end(record_t(77, 2, 900));
     let answer = walk::line(&mut state, &mut ids, &mut list, &bytes);
     assert_eq!((answer.taken, answer.refusal), (292, None));
-    let entry = |fein, count, cents| Entry { fein, count, cents };
+    let totalled = Entry::plain(999, 2, 900).of_kind(4, 3, 2);
     assert_eq!(ids, [0, 0, 23, 24]);
-    assert_eq!(
-        list,
-        [entry(11, 1, 100), entry(999, 2, 900), entry(8, 8, 8)]
-    );
+    assert_eq!(list, [OF_E_OPEN[0], totalled, OF_E_OPEN[2]]);
     assert_eq!(state.standing, Standing::Among(Phase::AfterT));
     assert_eq!(
         (state.open, state.lines_read, state.s),
@@ -329,23 +331,29 @@ fn a_total_in_an_altered_walk() {
     );
 }
 
-/// E writes FEIN, 0, 0 after the employers and opens with no id in use.
+/// E writes FEIN, 0, 0, the flags and the date after the employers and opens with no id in use.
 #[test]
 fn an_employer_in_an_altered_walk() {
-    let (mut state, mut ids, mut list) = e_open();
-    state.standing = Standing::Among(Phase::AfterT);
-    let bytes = with_end(record_e(Q1, 8, false, &AUGUSTA));
-    let answer = walk::line(&mut state, &mut ids, &mut list, &bytes);
-    // The entry after the employers is no earlier E.
-    assert_eq!(answer.refusal, None);
-    let entry = |fein, count, cents| Entry { fein, count, cents };
-    assert_eq!(list, [entry(11, 1, 100), entry(77, 5, 6), entry(8, 0, 0)]);
-    assert_eq!(ids, [21, 22, 23, 24]);
-    let open = OpenE {
-        fein: 8,
-        ..OpenE::default()
-    };
-    assert_eq!((state.open, state.employers), (open, 3));
+    for (amended, date) in [(0, 0), (1, 0), (0, 1_012_026), (1, 3_312_026)] {
+        let (mut state, mut ids, mut list) = e_open();
+        state.standing = Standing::Among(Phase::AfterT);
+        let mut e = record_e(Q1, 8, false, &AUGUSTA);
+        put_number(&mut e, 187, 187, amended);
+        if date != 0 {
+            put_final(&mut e, date);
+        }
+        let answer = walk::line(&mut state, &mut ids, &mut list, &with_end(e));
+        // The entry after the employers is no earlier E.
+        assert_eq!(answer.refusal, None);
+        let taken = Entry::plain(8, 0, 0).of_kind(amended, u64::from(date != 0), date);
+        assert_eq!(list, [OF_E_OPEN[0], OF_E_OPEN[1], taken]);
+        assert_eq!(ids, [21, 22, 23, 24]);
+        let open = OpenE {
+            fein: 8,
+            ..OpenE::default()
+        };
+        assert_eq!((state.open, state.employers), (open, 3));
+    }
 }
 
 /// S writes one id after those in use; one of them again is 53, and zeroes all.

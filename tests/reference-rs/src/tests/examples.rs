@@ -24,10 +24,12 @@ fn with(line: usize, column: usize, text: &[u8]) -> Draft {
 
 // The frames.
 
-/// "Example: FEIN 012345678, two employees with 1,234.56 and 0.44"
+/// "Example: FEIN 012345678, two employees with 1,234.56 and 0.44", with the employer frame of
+/// document 02 (xiii).
 #[test]
 fn frames_of_an_accepted_file() {
-    let wanted = "0100BC614E00000002000000000001E26C\n000000000200000001000000000001E26C\n";
+    let wanted = "0200BC614E00000002000000000001E26C000000000000\n\
+                  000000000200000001000000000001E26C\n";
     assert_eq!(answer(&example(Q1, Q1).input()), wanted.as_bytes());
 }
 
@@ -38,11 +40,11 @@ fn frame_of_a_refused_file() {
     assert_eq!(answer(&draft.input()), b"FF34000000030002\n");
 }
 
-/// "So no output exceeds 35 bytes for each employer and 35 more."
+/// "the output bound becomes 47 bytes for each employer and 35 more"
 #[test]
 fn longest_output() {
     let output = answer(&example(Q1, Q1).input());
-    assert_eq!(output.len(), 35 + 35);
+    assert_eq!(output.len(), 47 + 35);
 }
 
 /// "six digits YYYYMM of the last closed quarter and LF (else 70 [...])"
@@ -82,19 +84,22 @@ fn entries_in_file_order() {
             employees: vec![(7, MOST_WAGES)],
         },
     ];
-    let entry = |fein, count, cents| Entry { fein, count, cents };
     let wanted = Accepted {
         entries: vec![
-            entry(900_000_000, 2, 123),
-            entry(5, 0, 0),
-            entry(6, 1, MOST_WAGES),
+            Entry::plain(900_000_000, 2, 123),
+            Entry::plain(5, 0, 0).of_kind(1, 1, 3_312_026),
+            Entry::plain(6, 1, MOST_WAGES).of_kind(0, 1, 1_012_026),
         ],
         s_count: 3,
         e_count: 3,
         cents: 100_000_000_000_122,
     };
-    let found = outcome(&tidy(Q1, Q1, &employers).input());
-    assert_eq!(found, Outcome::Accepted(wanted));
+    let mut draft = tidy(Q1, Q1, &employers);
+    let e = draft.places(b'E');
+    draft.lines[e[1]].put(187, b"1");
+    draft.lines[e[1]].put(282, b"103312026");
+    draft.lines[e[2]].put(282, b"101012026");
+    assert_eq!(outcome(&draft.input()), Outcome::Accepted(wanted));
 }
 
 // "Checked by hand"

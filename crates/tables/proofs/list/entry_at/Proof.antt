@@ -53,7 +53,7 @@ module _ {M : Type 1} (𝓤 : URA M) (H : Heap 𝓤) (A : Atoms 𝓤) (W : Given
       sets ! (of-opd ! (var ! 5 refl)) 19 refl typed $ shuts-entry ! tt x i q′ within $ lose ! 1 $
       returns-within ! Post refl (look ! 15 refl) $ lets-go ! 1 refl $ answers (getD ys i noEmployer) is refl))
       (λ failed.
-      sets ! (agg ! (and-then ! (lit ! tt) (and-then ! (lit ! tt) (and-then ! (lit ! tt) (no-more !))))) 16 refl (LL.lawful T.the-type T′.the-laws 𝓤 H A W .typed noEmployer _ at-rest .0) $ lose ! 1 $
+      sets ! (agg ! (and-then ! (lit ! tt) (and-then ! (lit ! tt) (and-then ! (lit ! tt) (and-then ! (lit ! tt) (and-then ! (lit ! tt) (and-then ! (lit ! tt) (no-more !)))))))) 16 refl (LL.lawful T.the-type T′.the-laws 𝓤 H A W .typed noEmployer _ at-rest .0) $ lose ! 1 $
       returns ! (look ! 15 refl) $ lets-go ! 1 refl $ answers noEmployer at-rest (sym (List·getD-eq-default ys noEmployer (nltb→le i (length ys) failed))))
 
 pub entry-at-spec : {M : Type 1} → stated.statement M

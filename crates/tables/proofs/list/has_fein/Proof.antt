@@ -83,7 +83,7 @@ module _ {M : Type 1} (𝓤 : URA M) (H : Heap 𝓤) (A : Atoms 𝓤) (W : Given
         points ! (x .ptr .0) (x .ptr .1) (k .0) (refers ! 22 refl refl) (var ! 6 refl) 4 refl tt $
         looks-entry ! tt x (sliceOf x ∷ []) (k .0) within (λ q′ is.
         -- [the entry; what it owns; the others; the open borrow; the list; _11 at 5; _10 at 7; …; _8 at 11; …; _3 at 21; …]
-        sets ! (of-opd ! (load ! (from ! (hop ! (look ! 7 refl) (fld ! refl (stop !)))) (look-in ! 0 (sub ! {τs = words 3} 0 {τ = tyInt w64} {d = 0} refl (whole !))))) 5 refl (tt, record { fits = LL.owed T.the-type T′.the-laws (getD ys (k .0) noEmployer) _ is .0 .1 }) $
+        sets ! (of-opd ! (load ! (from ! (hop ! (look ! 7 refl) (fld ! refl (stop !)))) (look-in ! 0 (sub ! {τs = words 6} 0 {τ = tyInt w64} {d = 0} refl (whole !))))) 5 refl (tt, record { fits = LL.owed T.the-type T′.the-laws (getD ys (k .0) noEmployer) _ is .0 .1 }) $
         resets ! (bin ! (var ! 5 refl) (var ! 21 refl) tt) 11 refl (tt, tt) $ shuts-entry ! tt x (k .0) q′ within $
         resets ! (bin ! (var ! 14 refl) (var ! 8 refl) tt) 14 refl (tt, tt) $ rewrite ! 14 (λ (b : Bool). ‵ (fat fullShare tyBool (spotOf 𝓤 H En 5 .1) 0 (vbool b))) (found-more (k .0) within) refl $
         assigns-last ! (bin ! (var ! 12 refl) (lit ! tt) (record { fits = next })) (from ! (stop !)) (store ! 12 refl (tt, record { fits = next })) $

@@ -94,7 +94,7 @@ module _ {M : Type 1} (𝓤 : URA M) (H : Heap 𝓤) (A : Atoms 𝓤) (W : Given
       asks ! (least W mem run) known (fmOf 𝓤 H (W .laws) 𝓣) ((tt, tt, tt, (n, (length ys, tt)), (vint w64 n ∷ [], (vint w64 (length ys) ∷ [], tt))), tt) tt
       0 (made (uint-makes 𝓤 H A W w64 n _ (refl, n-fits)), (made (uint-makes 𝓤 H A W w64 (length ys) _ (refl, room .0)), tt)) refl (and-then ! (var ! 16 refl) (and-then ! (var ! 8 refl) (no-more !))) (λ end _ is-end is.
       receives ! 14 refl (tt, record { fits = is .1 }) $
-      sets ! (agg ! (and-then ! (lit ! tt) (and-then ! (lit ! tt) (and-then ! (lit ! tt) (no-more !))))) 12 refl (LL.lawful T.the-type T′.the-laws 𝓤 H A W .typed noEmployer _ at-rest .0) $
+      sets ! (agg ! (and-then ! (lit ! tt) (and-then ! (lit ! tt) (and-then ! (lit ! tt) (and-then ! (lit ! tt) (and-then ! (lit ! tt) (and-then ! (lit ! tt) (no-more !)))))))) 12 refl (LL.lawful T.the-type T′.the-laws 𝓤 H A W .typed noEmployer _ at-rest .0) $
       sets ! (of-opd ! (lit ! tt)) 10 refl (tt, record { fits = lit< tt }) $
       rewrite ! 1 (λ (l : List Employer). ‵ (Owned κ x l)) (sym (wiped-none noEmployer ys)) refl $
       first ! $ blocks ! $ loops ! 𝓣 (Nearer (left end is-end)) (nearer-wf (left end is-end)) (At end is-end) (turns end is-end) (0, omega arith))
