@@ -160,11 +160,12 @@ def paper_numbers(paper):
 
 
 def later_numbers(requests, built):
-    """The numbers that the change requests of document 02 add, of those that are built: 'Refusals: 64, right after 44 and before 45, ..'"""
+    """The numbers that the change requests of document 02 add, of those that are built: 'Refusals: 64, right after 44 and before 45, ..'.
+    One that is given 'also' for something more, as 74 in (xiii), is another request's."""
     numbers = set()
     for name, refusals in re.findall(r"^\*\*\((\w+)\) .*Refusals?[^:]*:(.*)$", requests, re.M):
         if built(name):
-            numbers |= {int(n) for n in re.findall(r"(?<![\d,.])([1-9]\d)(?![\d,]\d)(?!\d)", refusals)}
+            numbers |= {int(n) for n in re.findall(r"(?<![\d,.])([1-9]\d)(?![\d,]\d)(?!\d)(?! also)", refusals)}
     return numbers
 
 
