@@ -19,9 +19,9 @@ import run
 sys.path.insert(0, os.path.join(run.ROOT, "tests"))
 import program_answers
 import program_cases
-from program_cases import PIECES, answers, compare, reference
+from program_cases import PIECES, answers, compare
+from reference_rs import acknowledged, cargo, reference
 
-BUILT_REFERENCE = os.path.join(run.ROOT, "target", "reference-rs")
 FIXED_SEED, FIXED_CASES, DRAWN_CASES, LONG_CASES, PAIRS = 1, 22000, 4000, 4, 1000
 # Files of so many employers and employees, and how many cases of each. The last are longer than what one read brings.
 CHANGED = [(1, 60, 700), (4, 25, 700), (4, 1500, 40)]
@@ -31,8 +31,7 @@ IN_PIECES = 10
 
 def build():
     run.build()
-    folder = os.path.join(run.ROOT, "tests", "reference-rs")
-    subprocess.run(["cargo", "build", "--release", "--offline", "--quiet", "--target-dir", BUILT_REFERENCE], cwd=folder, check=True)
+    cargo("build").check_returncode()
 
 
 def spawned(stdin, words=()):
@@ -75,9 +74,9 @@ def fed(case, piece):
 
 
 def inputs(pipe):
-    """The cases that the reference writes, each with the size of the reads."""
+    """The cases that the reference writes, each with the size of the reads. The third number of a head is the format's, here always that of PFML."""
     while head := pipe.readline():
-        length, piece = map(int, head.split())
+        length, piece, _ = map(int, head.split())
         yield pipe.read(length), piece
 
 
@@ -142,7 +141,7 @@ def through_changes(employers, employees, count, seed):
     for _ in range(count):
         case = changed(draw, file)
         got.append(answered(case, draw.choice([(), ("large-page",)])) if draw.random() < 0.8 else fed(case, draw.choice(PIECES[4:])))
-        expected.append(subprocess.run(reference("ack"), input=case, stdout=subprocess.PIPE).stdout)
+        expected.append(acknowledged(case))
     compare("%d × %d with changes of seed %d" % (employers, employees, seed), got, expected)
 
 

@@ -42,14 +42,14 @@ def newest(folder):
     return max(os.path.getmtime(os.path.join(at, name)) for at, _, names in os.walk(folder) for name in names)
 
 
-def proved():
-    """The proved program for this machine: as `rt check` builds it, or, where that is not for this machine, compiled once more, and linked as the others are."""
+def proved(name="acknowledge"):
+    """A proved program for this machine: as `rt check` builds it, or, where that is not for this machine, compiled once more, and linked as the others are."""
     if platform.machine() == "x86_64":
-        subprocess.run(["rt", "check", "acknowledge"], cwd=ROOT, check=True, stdout=subprocess.DEVNULL)
-        return os.path.join(ROOT, "target", "bin", "acknowledge")
-    program = os.path.join(ROOT, "target", "native", "acknowledge")
+        subprocess.run(["rt", "check", name], cwd=ROOT, check=True, stdout=subprocess.DEVNULL)
+        return os.path.join(ROOT, "target", "bin", name)
+    program = os.path.join(ROOT, "target", "native", name)
     if not os.path.exists(program) or os.path.getmtime(program) < newest(os.path.join(ROOT, "crates")):
-        words = [os.path.join(ROOT, "tools", "native-build"), "acknowledge", program]
+        words = [os.path.join(ROOT, "tools", "native-build"), name, program]
         subprocess.run(words, env=dict(os.environ, EXTRA="-static"), check=True)
     return program
 

@@ -1,6 +1,6 @@
-/* The wage file library for C and C++: the walk over a wage file, the writing of T and F
- * records, the building of A, E and S records and the reading of their fields, and the frames of
- * the acknowledgement.
+/* The wage file library for C and C++: the walk over a file of one of the formats below, the
+ * writing of T and F records, the building of A, E and S records of the paid leave wage file and
+ * the reading of their fields, and the frames of the acknowledgement.
  *
  * It is proved in Rattle (docs/PROVED.md): every call below returns, touches nothing but what it
  * is lent, and answers as written here, whatever numbers and bytes it is lent. Link libwage.a
@@ -42,7 +42,8 @@ uint64_t wage_abi_version(void);
 typedef struct wage_employer {
     uint64_t fein;
     uint64_t count;        /* S records */
-    uint64_t cents;        /* their wages */
+    uint64_t cents;        /* their wages; in an amended withholding file the correct tax */
+    /* of the paid leave wage file alone; in another format these three are 0 */
     uint64_t amended;      /* 1 if the return is amended, else 0 */
     uint64_t final_return; /* 1 if it is final, else 0 */
     uint64_t cease_date;   /* of a final return the day, MMDDYYYY as a number; else 0 */
@@ -51,22 +52,23 @@ typedef struct wage_employer {
 /* The format of a file, by the number that it is given at opening. Another number names no
  * format; the state of a walk that was opened with one holds WAGE_FORMAT_NONE. */
 enum {
-    WAGE_FORMAT_PFML = 0, /* the paid leave wage file, records of 290 characters */
+    WAGE_FORMAT_PFML = 0,      /* the paid leave wage file, records of 290 characters */
+    WAGE_FORMAT_WHAM_2024 = 1, /* the amended withholding file, edition 2024, of 275 */
     WAGE_FORMAT_NONE = 255
 };
 
 /* Every call but wage_abi_version, wage_field_text and wage_field_first returns a number: 0 if
  * all is well, else that of the refusal.
  *
- *   1 to 65   the file is refused: docs/REASONS.md has every number
- *   70        year and month are no last closed quarter
- *   71        a line or the end after acceptance; nothing changed
- *   72        the state is unfit: words that tell no walk, a format that is none, numbers that
- *             no walk has, or more in use than the tables lent hold; nothing changed
- *   73        the format's number names no format
- *   80 to 83  wage_write_t, wage_write_f: below
- *   84, 85    wage_build_a, wage_build_e, wage_build_s: below
- *   87, 88    wage_frames: below */
+ *   1 to 65, 91  the file is refused: docs/REASONS.md has every number
+ *   70           year and month are no last closed quarter
+ *   71           a line or the end after acceptance; nothing changed
+ *   72           the state is unfit: words that tell no walk, a format that is none, numbers that
+ *                no walk has, or more in use than the tables lent hold; nothing changed
+ *   73           the format's number names no format
+ *   80 to 83     wage_write_t, wage_write_f, wage_wham_write_t, wage_wham_write_f: below
+ *   84, 85       wage_build_a, wage_build_e, wage_build_s: below
+ *   87, 88       wage_frames: below */
 enum {
     WAGE_FINE = 0,
     WAGE_BAD_QUARTER = 70,
@@ -89,8 +91,8 @@ enum {
     WAGE_ANSWER_NUMBER = 0, /* what the call returns */
     WAGE_ANSWER_LINE = 1,   /* from 1; 0 if the refusal is not of the file */
     WAGE_ANSWER_COLUMN = 2, /* from 1; 0 if the refusal is neither of the file nor of a field */
-    /* wage_line: bytes taken; wage_frames: bytes written; a record written or built: 290; all
-     * others, and every refusal: 0 */
+    /* wage_line: bytes taken; wage_frames: bytes written; a record written or built: its 290 or
+     * 275; all others, and every refusal: 0 */
     WAGE_ANSWER_BYTES = 3,
     WAGE_ANSWER_VALUE = 3,  /* wage_field_number: the number */
     WAGE_ANSWER_WORDS = 4
@@ -101,15 +103,19 @@ enum {
  *
  * A call reads any words. Fewer than 27, a standing above 6, or a refusal of a number that is
  * not in the list above or in docs/REASONS.md tell no walk, and the call answers 72; so it does
- * where FORMAT names no format, unless the walk is refused with 70 or 73. S_FOLLOW and NOTED
+ * where FORMAT names no format, unless the walk is refused with 70 or 73, and where a walk whose
+ * format is named is refused with 73. S_FOLLOW and NOTED
  * count as 1 unless they are 0; LINE and LINES above 4,294,967,295 and COLUMN above 65,535 count
  * as these. A call of the walk then writes the state that it leaves, all 27 words; a line or end
  * call that answers 70, 71, 72 or 73 writes none.
  *
  * PFML uses none of the words 18 to 26: a walk over it has zeros there, and 72 compares none of
- * them. Whatever a caller puts there: an opening and a refusal set all of them to zero; an A, E,
- * T or F record sets the open E's to zero and leaves the file's; an S record, the end of an
- * accepted file, and a refusal that is answered again leave all of them. */
+ * them. WHAM 2024 uses OPEN_SECOND, FILE_SECOND (both compared), the two words of the account,
+ * and FILE_OTHERS; it has zeros in the others, and in IDS_USED. Whatever a caller puts there: an
+ * opening and a refusal set all of them to zero; an A, E, T or F record sets the open E's to
+ * zero, or to what E says, and leaves the file's; an S record adds to the second sums, an R
+ * record to FILE_OTHERS; the end of an accepted file and a refusal that is answered again leave
+ * all of them. */
 enum {
     /* 0 before A, 1 after A, 2 E open, 3 after T, 4 after F, 5 accepted, 6 refused */
     WAGE_STANDING = 0,
@@ -119,35 +125,36 @@ enum {
     WAGE_LINES = 4,              /* lines read */
     WAGE_HELD_YEAR = 5,          /* the last closed quarter */
     WAGE_HELD_MONTH = 6,
-    WAGE_FILED_YEAR = 7,         /* A's quarter */
+    WAGE_FILED_YEAR = 7,         /* A's quarter; in WHAM A's year, and the first E's month */
     WAGE_FILED_MONTH = 8,
     WAGE_OPEN_FEIN = 9,          /* the open E: its FEIN, */
     WAGE_OPEN_S_FOLLOW = 10,     /* its flag that S records follow, */
     WAGE_OPEN_COUNT = 11,        /* the S records under it */
-    WAGE_OPEN_CENTS = 12,        /* and their wages */
+    WAGE_OPEN_CENTS = 12,        /* and their wages; in WHAM the correct tax, S 203-214 */
     WAGE_FILE_COUNT = 13,        /* S records of the file, */
     WAGE_FILE_EMPLOYERS = 14,    /* E records, */
-    WAGE_FILE_CENTS = 15,        /* and the wages of all S records */
+    WAGE_FILE_CENTS = 15,        /* and the wages, or the correct tax, of all S records */
     WAGE_IDS_USED = 16,          /* ids of the table that are the open E's */
-    WAGE_FORMAT = 17,            /* the format; another number than WAGE_FORMAT_PFML is none */
-    WAGE_OPEN_SECOND = 18,       /* the open E: its second sum, */
+    WAGE_FORMAT = 17,            /* the format's number; one that is not listed above is none */
+    WAGE_OPEN_SECOND = 18,       /* the open E: its second sum, in WHAM the original tax, */
     WAGE_OPEN_OTHERS = 19,       /* its other records, */
     WAGE_OPEN_NEAREST = 20,      /* the nearest number, */
     WAGE_OPEN_NOTED = 21,        /* the flag that a note was seen, */
-    WAGE_OPEN_ACCOUNT_HEAD = 22, /* and its account, in two parts */
+    WAGE_OPEN_ACCOUNT_HEAD = 22, /* and its account: 6 and 5 characters to the base 256 */
     WAGE_OPEN_ACCOUNT_TAIL = 23,
     WAGE_FILE_SECOND = 24,       /* the file's second sum, */
-    WAGE_FILE_OTHERS = 25,       /* its other records, */
+    WAGE_FILE_OTHERS = 25,       /* its other records, in WHAM R, */
     WAGE_FILE_NOTES = 26,        /* and its notes */
     WAGE_STATE_WORDS = 27
 };
 
 /* The tables. `ids` has room for the identity numbers under one employer (a zero one takes
- * none), `list` for the employers of the file: at most 65,536 are taken. No room for one more is
+ * none; in WHAM no number is kept, and length 0 is enough), `list` for the employers of the
+ * file: at most 65,536 are taken. No room for one more is
  * refusal 62 or 63. A call may be lent tables of another length than the call before, as long as
  * they hold what is in use (else 72); their content is the caller's to keep. An E record sets all
- * six numbers of its entry, count and cents to zero; T sets these two. A refusal from 1 to 65
- * zeroes every entry of both tables, again with each later line or end call; after acceptance
+ * six numbers of its entry, count and cents to zero; T sets these two. A refusal by an edit (1
+ * to 65, 91) zeroes every entry of both tables, again with each later line or end call; after acceptance
  * `list` holds the employers in file order, then zeros, and `ids` zeros. */
 
 /* Opens a walk over a file of this format for the last closed quarter, year 2025 to 9999 and
@@ -158,7 +165,8 @@ enum {
 uint64_t wage_open(uint64_t format, uint64_t year, uint64_t month, uint64_t *state, size_t state_length, uint64_t *answer, size_t answer_length,
                    uint32_t *ids, size_t ids_length, wage_employer *list, size_t list_length);
 
-/* Reads the first line of the bytes: all that remains of the file, or at least 292 bytes of it.
+/* Reads the first line of the bytes: all that remains of the file, or at least two more bytes
+ * of it than a record of the format has, 292 or 277.
  * ANSWER_BYTES says how many the line and its end take, and what follows them is ignored. No
  * bytes are a line of length 0. */
 uint64_t wage_line(uint64_t *state, size_t state_length, const uint8_t *bytes, size_t bytes_length, uint64_t *answer, size_t answer_length,
@@ -182,7 +190,19 @@ uint64_t wage_whole(uint64_t format, uint64_t year, uint64_t month, const uint8_
 uint64_t wage_write_t(const uint64_t *state, size_t state_length, uint8_t *out, size_t out_length, uint64_t *answer, size_t answer_length);
 uint64_t wage_write_f(const uint64_t *state, size_t state_length, uint8_t *out, size_t out_length, uint64_t *answer, size_t answer_length);
 
-/* The fields of the records, counted from 0 in the order of their tables: places in `values`,
+/* The same for an amended withholding file, into 275 bytes. `payments` are the cents of T
+ * 112-122, which no S record says; T 123-136 is what is due, or overpaid, by them. `total` is
+ * read in edition 2020 alone, of which there is no format yet: any number will do. In this
+ * order: 72; 83 if `out` is not 275 bytes; 80 if no T (no F) can stand here, or the walk is over
+ * a file of another format: an F may also follow an E that says 0 and has no T; 81 as above; 82
+ * if the payments or a sum is too large for the record. wage_write_t and wage_write_f answer 80
+ * to a walk over such a file, and these two to a walk over a paid leave wage file. */
+#define WAGE_WHAM_RECORD_BYTES 275
+uint64_t wage_wham_write_t(const uint64_t *state, size_t state_length, uint64_t payments, uint64_t total, uint8_t *out, size_t out_length,
+                           uint64_t *answer, size_t answer_length);
+uint64_t wage_wham_write_f(const uint64_t *state, size_t state_length, uint8_t *out, size_t out_length, uint64_t *answer, size_t answer_length);
+
+/* The fields of the records of PFML, counted from 0 in the order of their tables: places in `values`,
  * and arguments of the calls that read a field. Beside each stand its columns; a text is named
  * as one, all others are numbers. The fields without a name are the record's letter, the taxing
  * entity code and blank space, which no caller gives. */
@@ -249,7 +269,7 @@ enum {
 /* The value of an account number that is left out: its ten columns are blank. */
 #define WAGE_NO_ACCOUNT ((uint64_t)-1)
 
-/* Builds an A, E or S record from unpadded values into `out`, 290 bytes without a line end, in
+/* Builds an A, E or S record of PFML from unpadded values into `out`, 290 bytes without a line end, in
  * capitals: texts left justified and filled with blanks, numbers right justified and filled with
  * zeros.
  *
@@ -272,7 +292,7 @@ uint64_t wage_build_e(const uint64_t *values, size_t values_length, const uint8_
 uint64_t wage_build_s(const uint64_t *values, size_t values_length, const uint8_t *texts, size_t texts_length, uint8_t *out, size_t out_length,
                       uint64_t *answer, size_t answer_length);
 
-/* Read a field of a line. `letter` is A, E, S, T or F, a capital, and decides by itself which
+/* Read a field of a line of PFML. `letter` is A, E, S, T or F, a capital, and decides by itself which
  * record's fields are meant; `field` is one of the numbers above, or that of a field without a
  * name. Of a record that was built the values come back, in capitals and without trailing
  * blanks; an account number that was left out has a text of no characters.
@@ -289,16 +309,16 @@ uint64_t wage_field_text(uint8_t letter, size_t field, const uint8_t *line, size
 uint64_t wage_field_first(uint8_t letter, size_t field);
 
 /* Writes the acknowledgement of a walk that has ended, by acceptance or by refusal, to the front
- * of `out`; bytes after it stay. It is lines of hexadecimal, each with LF: 47 bytes for each
- * employer and 35 more; 17 bytes for a refusal. The return value tells whether it was written,
+ * of `out`; bytes after it stay. It is lines of hexadecimal, each with LF: for each employer 47
+ * bytes, or 35 in another format than PFML, and 35 more; 17 bytes for a refusal. The return value tells whether it was written,
  * not whether the file was accepted: that is WAGE_STANDING. In this order: 72, which compares
  * the list alone; 87 if the walk has not ended; 88 if `out` is too small. `out` is then
  * untouched.
  *
- * An employer's frame has 4 bytes for the FEIN, 4 for the count, 8 for the cents, 1 for each of
- * the two flags and 4 for the date. The numbers of a file fit; of a larger one, which only the
+ * An employer's frame has 4 bytes for the FEIN, 4 for the count and 8 for the cents, and in PFML
+ * 1 for each of the two flags and 4 for the date. The numbers of a file fit; of a larger one, which only the
  * caller can have put into the list, the low bytes are written. */
-#define WAGE_FRAMES_BYTES(employers) (47 * (size_t)(employers) + 35)
+#define WAGE_FRAMES_BYTES(employers) (47 * (size_t)(employers) + 35) /* in any format */
 uint64_t wage_frames(const uint64_t *state, size_t state_length, const wage_employer *list, size_t list_length, uint8_t *out, size_t out_length,
                      uint64_t *answer, size_t answer_length);
 

@@ -3,13 +3,13 @@
 
     tests/compare_source.py [--root DIR] [DOCUMENTS]
 
-DOCUMENTS is the folder that holds document 000 (its file name begins with 000_), 01-scope.md and 02-change-requests.md;
+DOCUMENTS is the folder that holds documents 000 and 001 (their file names begin with 000_ and 001_), 01-scope.md and 02-change-requests.md;
 ../shared/documents from the repository's root if not given. DIR is the repository's root; the one that holds this file if not given.
 
-The five tables and the codes are read from document 000. What each field is, its class, follows from the table's own words: type, rules
-and the field's name. The readings of document 01 (which location is read as two, how many fields, which reasons) are read from its sentences,
-and from those of document 02 the reasons that its requests add, where docs/changes has a note of the request; that of an unknown format at opening is there
-before its request.
+The five tables of PFML and the codes are read from document 000, the six of the amended withholding file from document 001. What each field is, its class,
+follows from the table's own words: type, rules or description, and the field's name. The readings of document 01 (which location is read as two, how many
+fields, which reasons) are read from its sentences, and from those of document 02 the reasons that its requests add, where docs/changes has a note of the
+request; that of an unknown format at opening is there before its request, and those that a request leaves to a list in docs/ are read from there.
 One line for each comparison; the last line is 'N passed, M failed'.
 """
 import argparse
@@ -17,9 +17,12 @@ import os
 import re
 import sys
 
+import format_lists
 import paper_fields
 
 RECORDS = "AESTF"
+# Those of the amended withholding file, in the order of the crates. Document 001 has a B too, which document 02 leaves out of this edition.
+WHAM_RECORDS = "AESRTF"
 COUNTS = {"passed": 0, "failed": 0}
 
 
@@ -159,19 +162,102 @@ def paper_numbers(paper):
     return numbers - {0}
 
 
-def later_numbers(requests, built):
+def later_numbers(requests, built, page):
     """The numbers that the change requests of document 02 add, of those that are built: 'Refusals: 64, right after 44 and before 45, ..'.
-    One that is given 'also' for something more, as 74 in (xiii), is another request's."""
-    numbers = set()
+    One that is given 'also' for something more, as 74 in (xiii), is another request's. Of '90 to 99 for the R record, .. listed in docs/' those that the
+    format's page lists."""
+    numbers, left = set(), r"(\d+) to (\d+) for the (\w) record,[^;]* listed in docs/"
     for name, refusals in re.findall(r"^\*\*\((\w+)\) .*Refusals?[^:]*:(.*)$", requests, re.M):
         if built(name):
-            numbers |= {int(n) for n in re.findall(r"(?<![\d,.])([1-9]\d)(?![\d,]\d)(?!\d)(?! also)", refusals)}
+            for first, last, record in re.findall(left, refusals):
+                numbers |= listed_numbers(page, record) & set(range(int(first), int(last) + 1))
+            numbers |= {int(n) for n in re.findall(r"(?<![\d,.])([1-9]\d)(?![\d,]\d)(?!\d)(?! also)", re.sub(left, "", refusals))}
+    return numbers
+
+
+def listed_numbers(page, record):
+    """The numbers in the rules of a record's fields, in the page of a format."""
+    numbers = set()
+    for above, heads, rows in format_lists.tables(page.split("\n")):
+        if heads[:2] == ["Columns", "Field"] and above.startswith(record + ","):
+            numbers |= {int(n) for _, cells in rows for n in re.findall(r"\d+", cells[3])}
     return numbers
 
 
 def opening_numbers(requests):
     """That of request (vii), 'Refusals: 73, unknown edition, at opening after 70': a format is named at opening, with one to name so far."""
     return {int(n) for n in re.findall(r"Refusals: (\d+), unknown edition, at opening after 70", requests)}
+
+
+# ---- document 001
+
+
+def wham_tables(source):
+    """The rows of each record's table as (first, last, name, length, type, description). A table begins with the row of the record's letter."""
+    rows, record = {}, None
+    for line in source.split("\n"):
+        cells = [plain(c) for c in line.split("\t")]
+        if len(cells) != 5 or not columns(cells[0]):
+            continue
+        if cells[1] == "Record Identifier":
+            record = cells[4][-1]
+        rows.setdefault(record, []).append(columns(cells[0]) + (cells[1], int(cells[2])) + tuple(cells[3:]))
+    return rows
+
+
+def wham_class(row):
+    """What a field is, by the words of its row."""
+    first, last, name, length, kind, description = row
+    if name == "Record Identifier":
+        return "RecordLetter"
+    if "will be ignored" in description:
+        return "Ignored"
+    if name == "Taxing Entity":
+        return "EntityCode"
+    return wham_number(name, description) if kind == "N" else wham_text(name)
+
+
+def wham_number(name, description):
+    if name == "Period Covered":
+        return "Period"
+    if name == "Social Security Number":
+        return "SocialSecurity"
+    if "(Maine is 23)" in description:
+        return "MaineCode"
+    if "“1” = Indicates" in description and "“0” = Indicates" in description:
+        return "Flag"
+    if "must equal the total entered here" in description:
+        return "Difference"
+    return "Numeric"
+
+
+def wham_text(name):
+    """A text is required unless it can be not applicable. Whatever stands for an initial is one, or a blank: so nothing of it is tested."""
+    if name.endswith("State"):
+        return "StateCode"
+    if name.lower().endswith("zip code extension"):
+        return "ZipExtension"
+    if name.lower().endswith("zip code"):
+        return "ZipCode"
+    if name.endswith("Middle Initial"):
+        return "Ignored"
+    if name == "Telephone Extension/Box":
+        return "OptionalText"
+    return "Licence" if name == "Processor License Number" else "RequiredText"
+
+
+def wham_as_read(source, paper):
+    """The fields of each record as (class, first, last, name)."""
+    two, fields = halves(paper), {}
+    for record, rows in wham_tables(source).items():
+        fields[record] = []
+        for row in rows:
+            if row[2] == "Reporting Quarter and Year":
+                parts = zip(("Period", "Numeric"), two[(record,) + row[:2]])
+                fields[record] += [(kind,) + part + (row[2],) for kind, part in parts]
+            else:
+                fields[record].append((wham_class(row),) + row[:3])
+    return fields
 
 
 # ---- the crates
@@ -221,7 +307,7 @@ def numbers_in(pattern, text, what):
 
 def listed_fields(text, record):
     """The rows of a record's list in specs, each with the name beside it; one that is a definition's name has its columns there."""
-    row = r"row (\w+) (\d+) (\d+)"
+    row = r"row (?:\(More )?(\w+)\)? (\d+) (\d+)"
     named = {name: row for name, *row in re.findall(r"^(\w+) = " + row + "$", text, re.M)}
     body = found(r"\nfieldsOf%s =\n(.*?)\n    \[\]" % record, text, "fieldsOf" + record).group(1)
     rows = [(named[name] if name else own, beside) for name, *own, beside in re.findall(r"^    (?:(\w+)|%s) ∷ *(?:-- (.*))?" % row, body, re.M)]
@@ -260,14 +346,14 @@ def same(what, wanted, got):
     say(wanted == got, what, first_difference(wanted, got) if isinstance(wanted, list) else "%s, not %s" % (got, wanted))
 
 
-def tiling(rows):
-    """Where the rows do not tile columns 1 to 290, in words; nothing if they do."""
+def tiling(rows, length):
+    """Where the rows do not tile columns 1 to this length, in words; nothing if they do."""
     at = 1
     for kind, first, last, name in rows:
         if first != at or last < first:
             return "%s begins at %d and ends at %d, with %d next" % (name, first, last, at)
         at = last + 1
-    return "" if at == 291 else "the last column is %d" % (at - 1)
+    return "" if at == length + 1 else "the last column is %d" % (at - 1)
 
 
 def compare_source(source, paper, fields):
@@ -277,17 +363,23 @@ def compare_source(source, paper, fields):
     for record in RECORDS:
         wrong = ["%d-%d has length %d" % (row[0], row[1], row[3]) for row in printed[record] if row[3] != row[1] - row[0] + 1]
         say(not wrong, "%s: each printed length is last - first + 1" % record, "; ".join(wrong))
-        gap = tiling(fields[record])
+        gap = tiling(fields[record], 290)
         say(not gap, "%s: the fields tile columns 1 to 290" % record, gap)
+
+
+def compare_counts(code, fields, records):
+    """The counts of fields beside a list of them. The number of each record's first field."""
+    starts = [sum(len(fields[r]) for r in records[:k]) for k in range(len(records))]
+    same("FIRST_OF_A to FIRST_OF_F count the fields before each record", starts, [n for r in records for n in numbers_in(r"const FIRST_OF_%s: usize = (\d+);" % r, code, r)])
+    same("ALL_FIELDS counts all of them", [sum(len(fields[r]) for r in records)], numbers_in(r"const ALL_FIELDS: usize = (\d+);", code, "ALL_FIELDS"))
+    return starts
 
 
 def compare_fields(read, source, fields):
     code, specs = read("crates/pfml_fields/src/lib.rt"), read("crates/pfml_fields/specs/Fields.antt")
     rows = in_records(code_fields(code))
     same("FIELDS has five records", 5, len(rows))
-    starts = [sum(len(fields[r]) for r in RECORDS[:k]) for k in range(5)]
-    same("FIRST_OF_A to FIRST_OF_F count the fields before each record", starts, [n for r in RECORDS for n in numbers_in(r"const FIRST_OF_%s: usize = (\d+);" % r, code, r)])
-    same("ALL_FIELDS counts all of them", [sum(len(fields[r]) for r in RECORDS)], numbers_in(r"const ALL_FIELDS: usize = (\d+);", code, "ALL_FIELDS"))
+    starts = compare_counts(code, fields, RECORDS)
     same("starts, in specs, counts them too", starts, numbers_in(r"\nstarts =(.*?)\[\]", specs, "starts"))
     length = numbers_in(r"Each record must be a uniform length of (\d+)", source, "the record's length")
     same("RECORD is the record's length", length, numbers_in(r"const RECORD: u16 = (\d+)", code, "RECORD"))
@@ -299,6 +391,40 @@ def compare_fields(read, source, fields):
         same("%s: columns and classes of fieldsOf%s" % (record, record), wanted, [row[:3] for row in listed])
         wrong = ["%s for %s" % (row[3], full[3]) for row, full in zip(listed, fields[record]) if not is_short_for(row[3], full[3])]
         say(not wrong, "%s: the names in fieldsOf%s are the source's" % (record, record), "; ".join(wrong))
+
+
+# In document 001 two printed lengths are not last - first + 1, B 19-264 and E 229-257. The columns decide.
+WHAM_LENGTHS = [("B", 19, 264, 245), ("E", 229, 257, 43)]
+
+
+def compare_wham_source(source, fields, length):
+    printed = wham_tables(source)
+    same("001 has tables of A, B, E, S, R, T and F", sorted("ABESRTF"), sorted(printed))
+    wrong = [(record, row[0], row[1], row[3]) for record in sorted(printed) for row in printed[record] if row[3] != row[1] - row[0] + 1]
+    same("001: each printed length but two is last - first + 1", WHAM_LENGTHS, wrong)
+    for record in WHAM_RECORDS:
+        gap = tiling(fields[record], length)
+        say(not gap, "001, %s: the fields tile columns 1 to %d" % (record, length), gap)
+        codes = {re.sub("^Enter ", "", row[5]) for row in printed[record] if row[2] == "Taxing Entity"}
+        say(codes == (set() if record == "R" else {"WHAM"}), "001, %s: its entity code is WHAM, or it has none" % record, codes)
+
+
+def compare_wham(read, source, fields):
+    code, specs = read("crates/wham_fields/src/lib.rt"), read("crates/wham_fields/specs/Fields.antt")
+    length = numbers_in(r"Each record must be a uniform length \((\d+) or", source, "the record's length")
+    compare_wham_source(source, fields, *length)
+    rows = in_records(code_fields(code))
+    same("FIELDS of wham_fields has six records", 6, len(rows))
+    compare_counts(code, fields, WHAM_RECORDS)
+    same("RECORD of wham_fields is the record's length", length, numbers_in(r"const RECORD: u16 = (\d+)", code, "RECORD"))
+    for k, record in enumerate(WHAM_RECORDS):
+        wanted = [row[:3] for row in fields[record]]
+        same("001, %s: columns and classes of FIELDS" % record, wanted, rows[k] if k < len(rows) else [])
+        same("001, %s: columns and classes of fieldsOf%s" % (record, record), wanted, [row[:3] for row in listed_fields(specs, record)])
+    order = found(r"\nrecords = (.*?) ∷ \[\]", specs, "records").group(1).split(" ∷ ")
+    same("records, in specs, has them in this order", ["fieldsOf" + record for record in WHAM_RECORDS], order)
+    same("ENTITY of wham is the entity code", "WHAM", found(r'const ENTITY: \[u8; 4\] = \*b"(.*?)";', read("crates/wham/src/lib.rt"), "ENTITY").group(1))
+    same("and so it is in specs", ["WHAM"], re.findall(r'code = bytes "(.*?)"', read("crates/wham/specs/Edits.antt")))
 
 
 def compare_map(read, fields):
@@ -364,12 +490,13 @@ def main():
     words.add_argument("--root", default=here)
     given = words.parse_args()
     folder = given.documents or os.path.join(given.root, "..", "shared", "documents")
-    source, paper, requests = document(folder, "000_"), document(folder, "01-scope"), document(folder, "02-change")
-    later = later_numbers(requests, lambda name: os.path.exists(os.path.join(given.root, "docs", "changes", name + ".md")))
-    later |= opening_numbers(requests)
+    source, wham, paper, requests = (document(folder, begins) for begins in ("000_", "001_", "01-scope", "02-change"))
     fields, read = as_read(source, paper), reader(given.root)
+    later = later_numbers(requests, lambda name: os.path.exists(os.path.join(given.root, "docs", "changes", name + ".md")), read("docs/formats/wham.md"))
+    later |= opening_numbers(requests)
     compare_source(source, paper, fields)
     compare("the list of fields", compare_fields, read, source, fields)
+    compare("the list of fields of wham-2024", compare_wham, read, wham, wham_as_read(wham, paper))
     compare("the map of columns", compare_map, read, fields)
     compare("the codes", compare_codes, read, source, paper)
     compare("the reasons", compare_reasons, read, paper, later)

@@ -13,15 +13,17 @@ import tempfile
 
 import c_programs
 import compare_source
+import reference_rs
 import stack_depth
 from c_programs import ROOT
-from program_answers import EARLIER, QUARTER
+from program_answers import EXAMPLES, FORMATS, PFML, QUARTER, examples_of
 
-EXAMPLES = os.path.join(ROOT, "examples")
 HEADER = os.path.join(ROOT, "include", "wage.h")
 RUST = os.path.join(ROOT, "bindings", "rust")
-# Files of the reference that go through the Rust crate.
+# Files of the reference that go through the Rust crate, of each format.
 REFERENCE_FILES = 2000
+# What names a format to the reference.
+FLAGS = {form: () if form is PFML else ("--format", form.name) for form in FORMATS}
 
 # What examples/c/write_file.c writes, by the letters of its records, and the frames of it.
 WRITTEN = [b"A", b"E", b"S", b"S", b"T", b"E", b"T", b"F"]
@@ -33,7 +35,7 @@ WHOLE_STACK, CALL_STACK = 65536, 4096
 TEXTS = {"RequiredText", "OptionalText", "PersonName", "StateCode", "ZipCode", "ZipExtension"}
 CONSTANTS = {"RecordLetter", "EntityCode", "BlankSpace"}
 # The constants that the Rust crate has too, there without the WAGE_ in front.
-IN_RUST = ("ABI_VERSION", "FORMAT_PFML", "FORMAT_NONE", "UNKNOWN_FORMAT", "STATE_WORDS")
+IN_RUST = ("ABI_VERSION", "FORMAT_PFML", "FORMAT_WHAM_2024", "FORMAT_NONE", "UNKNOWN_FORMAT", "STATE_WORDS")
 
 passed = 0
 failed = 0
@@ -69,20 +71,29 @@ def stored_script(calls):
 
 
 def examples(acknowledge):
-    names = sorted(name[:-4] for name in os.listdir(EXAMPLES) if name.endswith(".txt"))
-    check("there are examples", len(names) >= 5)
-    for name in names:
-        done = run(*acknowledge, EARLIER.get(name, QUARTER), os.path.join(EXAMPLES, name + ".txt"))
-        status = 0 if name.startswith("accepted") else 1
-        check("examples/%s in C: %r" % (name, done), (done.returncode, done.stdout) == (status, read("examples", name + ".frames")))
-        check("a refusal is told in words", (b"refused: number" in done.stderr) == (status == 1))
-    for arguments in ((), (QUARTER,), (QUARTER, EXAMPLES), (QUARTER, os.path.join(EXAMPLES, "none"))):
+    """PFML is what no number names; another format goes by its number."""
+    count = 0
+    for form in FORMATS:
+        found = list(examples_of(form))
+        check("there are examples of %s" % form.name, len(found) >= 5)
+        for path, quarter, frames, status in found:
+            done = run(*acknowledge, quarter, path, *(() if form is PFML else (str(form.number),)))
+            check("%s in C: %r" % (path, done), (done.returncode, done.stdout) == (status, frames))
+            check("a refusal is told in words", (b"refused: number" in done.stderr) == (status == 1))
+        count += len(found)
+    other_arguments(acknowledge, found[0].path)
+    print("%d examples through the C example" % count)
+
+
+def other_arguments(acknowledge, path):
+    for arguments in ((), (QUARTER,), (QUARTER, EXAMPLES), (QUARTER, os.path.join(EXAMPLES, "none")), (QUARTER, path, "1", "1")):
         done = run(*acknowledge, *arguments)
         check("no answer to %r: %r" % (arguments, done), (done.returncode, done.stdout) == (2, b""))
+    done = run(*acknowledge, QUARTER, path, "9")
+    check("no format: %r" % done, (done.returncode, done.stdout) == (1, b"FF49000000000000\n"))
     with open("/dev/full", "wb") as full:
-        done = subprocess.run([*acknowledge, QUARTER, os.path.join(EXAMPLES, names[0] + ".txt")], stdout=full, stderr=subprocess.PIPE)
+        done = subprocess.run([*acknowledge, QUARTER, path], stdout=full, stderr=subprocess.PIPE)
         check("a full device: %r" % done, done.returncode == 2)
-    print("%d examples through the C example" % len(names))
 
 
 def written_file(write_file, acknowledge):
@@ -163,7 +174,7 @@ def header():
         done = run(command[0], *strict, *command[1:], text=True)
         check("%s: %s" % (" ".join(command), done.stderr), done.returncode == 0)
     exported = exports()
-    check("there are exports", len(exported) == 14)
+    check("there are exports", len(exported) == 16)
     fields_in_header(read("include", "wage.h").decode())
     check("wage.h declares them", sorted(re.findall(r"^uint64_t (\w+)\(", read("include", "wage.h").decode(), re.M)) == exported)
     rust_crate = "".join(read("bindings", "rust", "src", name).decode() for name in sorted(os.listdir(os.path.join(RUST, "src"))))
@@ -195,11 +206,16 @@ def cargo(command, *words, **environment):
 
 
 def reference(inputs, expected):
-    built = os.path.join(ROOT, "target", "reference-rs")
-    done = run("cargo", "build", "--release", "--offline", "--quiet", "--target-dir", built, cwd=os.path.join(ROOT, "tests", "reference-rs"), text=True)
+    """Writes the reference's files of all formats, one after the other, and the answers to them."""
+    done = reference_rs.cargo("build")
     check("the reference is built: %s" % done.stderr, done.returncode == 0)
-    done = run(os.path.join(built, "release", "reference"), "cases", "1", str(REFERENCE_FILES), inputs, expected)
-    check("the reference's files: %r" % done.stderr, done.returncode == 0)
+    for form in FORMATS:
+        parts = [path + form.name for path in (inputs, expected)]
+        done = run(*reference_rs.reference("cases", 1, REFERENCE_FILES, *parts, *FLAGS[form]))
+        check("the reference's files: %r" % done.stderr, done.returncode == 0)
+        for path, part in zip((inputs, expected), parts):
+            with open(path, "ab") as whole:
+                whole.write(read(part))
 
 
 def rust_run():
@@ -207,11 +223,12 @@ def rust_run():
         inputs, expected = os.path.join(folder, "inputs"), os.path.join(folder, "expected")
         reference(inputs, expected)
         done = cargo("test", "--release", "--", "--nocapture", WAGE_INPUTS=inputs, WAGE_EXPECTED=expected)
+    files = len(FORMATS) * REFERENCE_FILES
     print("\n".join(line for line in done.stdout.splitlines() if line.endswith(" ... ok") or line.endswith("of the reference")))
-    check("the Rust crate: %s%s" % (done.stdout, done.stderr), done.returncode == 0 and "%d files of the reference" % REFERENCE_FILES in done.stdout)
-    for path in sorted(name for name in os.listdir(EXAMPLES) if name.endswith(".txt")):
-        done = cargo("run", "--release", "--quiet", "--example", "acknowledge", EARLIER.get(path[:-4], QUARTER), os.path.join(EXAMPLES, path))
-        check("examples/%s in Rust: %r" % (path, done), done.stdout.encode() == read("examples", path[:-4] + ".frames"))
+    check("the Rust crate: %s%s" % (done.stdout, done.stderr), done.returncode == 0 and "%d files of the reference" % files in done.stdout)
+    for path, quarter, frames, _ in examples_of(PFML):
+        done = cargo("run", "--release", "--quiet", "--example", "acknowledge", quarter, path)
+        check("%s in Rust: %r" % (path, done), done.stdout.encode() == frames)
 
 
 def rust():

@@ -175,6 +175,12 @@ def run_script(text):
 
 # Making a script.
 
+def names_another(letter, values):
+    """Whether a command names a format that the reference does not know."""
+    given = values["format"] if letter in "OW" else values["number"] if letter == "N" and values["at"] == exports.FORMAT else PFML
+    return given in walk.OTHER_FORMATS
+
+
 class Script:
     """Commands so far, and the program's state after them, by which the next ones are made. `lent` is how much of the tables each call is lent."""
 
@@ -186,7 +192,7 @@ class Script:
     def add(self, letter, data=None, **values):
         digits = "".join("%0*d" % (width, values[name]) for name, width in COMMANDS[letter])
         command = letter + digits + ("" if data is None else "|" + data)
-        if "#" in command or len(digits) != sum(width for _, width in COMMANDS[letter]):
+        if "#" in command or len(digits) != sum(width for _, width in COMMANDS[letter]) or names_another(letter, values):
             raise ValueError(command)
         if self.size + len(command) + 1 > self.room:
             raise OverflowError
@@ -684,15 +690,15 @@ def seventy_again(w):
         w.open((2026, 5))
     for at, number in ((2, 2**32), (3, MOST), (10, 2), (17, 9), (21, 2), (26, MOST)):
         content(w)
-        w.state(standing(REFUSED, number=73))
+        w.state(standing(REFUSED, number=73, format=NO_FORMAT))
         w.word(at, number)
         w.line("A\n")
         w.end()
-        w.open(HELD, 2)
+        w.open(HELD, 9)
 
 
-# numbers that name no format
-OTHERS = (1, 9, NO_FORMAT, 256, 2**32, MOST)
+# numbers that name no format, and never will
+OTHERS = (5, 9, NO_FORMAT, 256, 2**32, MOST)
 
 
 def formats(w):
@@ -727,7 +733,7 @@ def formats(w):
     w.lending()
     w.open(HELD)
     w.lines(a_record())
-    w.open(HELD, 1)
+    w.open(HELD, 5)
     w.open(HELD)
     w.end()
 
@@ -925,6 +931,8 @@ def chance_state(st, pick):
 
 def chance_word(words, pick):
     at = pick.randrange(exports.WORDS)
+    if at == exports.FORMAT:
+        return at, pick.choice((PFML, *OTHERS, 2**32 + 5, 5 + pick.getrandbits(63)))
     return at, pick.choice((words[at] ^ 1, (words[at] + 2**32) % 2**64, pick.getrandbits(64), pick.randrange(8), MOST))
 
 
@@ -1155,10 +1163,10 @@ def exports_by_hand():
          [told_70, told_70, "70 0 0 0 |6 70 " + "0 " * 25 + "||\n"]),
         ("73, a line, the end, its frame, and what is written", called(opened, opening(9, 2025, 9), "L0101|A", "E0101", "F00017", "RT003"),
          [told_73] * 3 + ["0 0 0 17 |FF49000000000000/\n", "83 0 0 |...\n"]),
-        ("72, 70 and 73 in their order", called(opened, "K264", opening(9, 2025, 5), "K274", opening(9, 2025, 5), opening(2**64 - 1, 2025, 9), opening(1, 2025, 9)),
+        ("72, 70 and 73 in their order", called(opened, "K264", opening(9, 2025, 5), "K274", opening(9, 2025, 5), opening(2**64 - 1, 2025, 9), opening(5, 2025, 9)),
          ["", "72 0 0 0 |0 0 0 0 0 2026 6 " + "0 " * 20 + "||\n", "", none_70, told_73, told_73]),
         ("a format that is none", called(opened[:17] + [9] + opened[18:], "E0101"), ["72 0 0 0 |0 0 0 0 0 2026 6 " + "0 " * 10 + "9 " + "0 " * 9 + "||\n"]),
-        ("refused with 73, whatever the format", called(none_73[:17] + [0] + none_73[18:], "E0101"), ["73 0 0 0 |6 73 " + "0 " * 25 + "||\n"]),
+        ("refused with 73, in a state of PFML", called(none_73[:17] + [0] + none_73[18:], "E0101"), ["72 0 0 0 |6 73 " + "0 " * 25 + "||\n"]),
         ("words that PFML does not use, at the end", called([4, *accepted_state[1:18], 1, 2, 3, 4, 5, 6, 7, 8, 9], entry, "E0101"),
          ["", "0 0 0 0 |5 0 0 0 6 2026 6 2026 3 0 0 0 0 2 1 123500 0 0 1 2 3 1 5 6 7 8 9 ||12345678:2:123500:1:1:6302026\n"]),
         ("and at a refusal", called([3, *accepted_state[1:18], 1, 2, 3, 4, 5, 6, 7, 8, 9], "E0101"), ["8 7 1 0 |6 8 7 1 " + "0 " * 23 + "||\n"]),

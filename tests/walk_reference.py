@@ -18,12 +18,13 @@ MOST_ENTRIES = 65536
 MOST_LINES = 231074
 MOST_WAGES = 99999999999999
 MOST_FEIN = 999999999
-# the formats by their numbers, and what a state holds for every number that names none
+# PFML's number, and what a state holds for every number that names no format; the numbers that name other formats, or will: of these nothing is known here
 PFML, NO_FORMAT = 0, 255
+OTHER_FORMATS = range(1, 5)
 # the numbers that an opening refuses with: they are answered again and touch nothing
 AT_OPENING = (70, 73)
 # the numbers that a refusal leaves in the state: those of lines and of the end of the input, and those of an opening
-LEFT = {*range(1, 9), *range(10, 21), *range(30, 66), *AT_OPENING}
+LEFT = {*range(1, 9), *range(10, 21), *range(30, 66), 70}
 NO_ENTRY = (0,) * 6
 
 
@@ -92,10 +93,10 @@ def unfit(st, ids, entries):
         return True
     if st.stage == E_OPEN and open_e_unfit(st, ids):
         return True
-    if st.format != PFML and not (st.stage == REFUSED and st.number in AT_OPENING):
-        return True
     if st.stage == REFUSED:
-        return st.number not in LEFT
+        return st.number not in (LEFT if st.format == PFML else AT_OPENING)
+    if st.format != PFML:
+        return True
     if not may_be_held(st.held):
         return True
     return st.stage != BEFORE_A and not may_be_filed(st.filed, st.held)

@@ -1,6 +1,6 @@
 /* The acknowledgement of a wage file that is held in memory.
  *
- *     acknowledge YYYYMM FILE     YYYYMM: the last closed quarter
+ *     acknowledge YYYYMM FILE [FORMAT]     YYYYMM: the last closed quarter; FORMAT: the number of the file's format in wage.h, that of PFML if not given
  *
  * Prints the frames. The exit status is 0 for accepted, 1 for refused, 2 for no answer. */
 #include <stdint.h>
@@ -33,14 +33,14 @@ static uint8_t *read_file(const char *path, size_t *length)
 }
 
 /* Prints the frames of a file: 0 for accepted, 1 for refused, 2 if they cannot be printed. */
-static int acknowledge(uint64_t year, uint64_t month, const uint8_t *file, size_t length)
+static int acknowledge(uint64_t format, uint64_t year, uint64_t month, const uint8_t *file, size_t length)
 {
     static uint64_t state[WAGE_STATE_WORDS], answer[WAGE_ANSWER_WORDS];
     static uint32_t ids[MOST_IDS];
     static wage_employer list[MOST_EMPLOYERS];
     static uint8_t frames[WAGE_FRAMES_BYTES(MOST_EMPLOYERS)];
 
-    uint64_t refusal = wage_whole(WAGE_FORMAT_PFML, year, month, file, length, state, WAGE_STATE_WORDS, answer, WAGE_ANSWER_WORDS, ids, MOST_IDS, list,
+    uint64_t refusal = wage_whole(format, year, month, file, length, state, WAGE_STATE_WORDS, answer, WAGE_ANSWER_WORDS, ids, MOST_IDS, list,
                                   MOST_EMPLOYERS);
     if (refusal != WAGE_FINE) {
         fprintf(stderr, "refused: number %d, line %d, column %d\n", (int)refusal, (int)answer[WAGE_ANSWER_LINE], (int)answer[WAGE_ANSWER_COLUMN]);
@@ -61,11 +61,11 @@ int main(int count, char **words)
         return 2;
     }
     size_t length;
-    uint8_t *file = count == 3 ? read_file(words[2], &length) : NULL;
+    uint8_t *file = count == 3 || count == 4 ? read_file(words[2], &length) : NULL;
     if (file == NULL) {
-        fprintf(stderr, "usage: acknowledge YYYYMM FILE, a file that can be read\n");
+        fprintf(stderr, "usage: acknowledge YYYYMM FILE [FORMAT], a file that can be read\n");
         return 2;
     }
-    unsigned long quarter = strtoul(words[1], NULL, 10);
-    return acknowledge(quarter / 100, quarter % 100, file, length);
+    unsigned long quarter = strtoul(words[1], NULL, 10), format = count == 4 ? strtoul(words[3], NULL, 10) : WAGE_FORMAT_PFML;
+    return acknowledge(format, quarter / 100, quarter % 100, file, length);
 }

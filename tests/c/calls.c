@@ -8,6 +8,7 @@
 //     E  the end: ids lent 2-3, entries lent 4-5
 //     W  a whole file: as O; bytes
 //     R  a record written: T or F in 2, the length of the slice, at most 300, in 3-5. Full stops stand in the slice before
+//     H  a record of an amended withholding file written: as R; of a T the payments 6-25 and the total of all employees 26-45
 //     F  the frames: entries lent 2-3, the length of the buffer, at most 700, in 4-6. Full stops stand in it before
 //     B  a record built: A, E or S in 2, the length of the slice, at most 300, in 3-5; then the values, at most 40, a comma before each; the texts, as
 //        bytes. Full stops stand in the slice before
@@ -21,8 +22,8 @@
 //     K  what the calls to come are lent: so many words of state 2-3, at most 30, and of the answer 4, at most 6. At first it is 27 and 4
 //
 // The first four calls and X print a line: number, line, column and bytes; the state; the ids; the entries. Zeros at the end of a table are left
-// out. X prints no ids, and the entries from 65,534 on. R and B print number, line and column, and the slice; F all four, and the buffer, LF as a slash;
-// G all four, and the length of the text and the first column. The number is the one returned; a word of the answer that is not lent is told as 999.
+// out. X prints no ids, and the entries from 65,534 on. R, H and B print number, line and column, and the slice; F all four, and the buffer, LF as a
+// slash; G all four, and the length of the text and the first column. The number is the one returned; a word of the answer that is not lent is told as 999.
 //
 // What a call is lent stands right before memory that nobody may touch, and after some that is looked at afterwards. Where a call leaves something that
 // no line would show, the program ends with a message. The calls are made on a thread that has the stack that wage.h names, and no more.
@@ -338,14 +339,26 @@ static void line_beyond(struct text s)
     putchar('\n');
 }
 
-// The answer's three numbers, and the slice of a record that was written or built.
-static void put_record(const uint8_t *slice, size_t length)
+// The answer's three numbers, and the slice of a record of so many bytes that was written or built.
+static void put_record(const uint8_t *slice, size_t length, uint64_t bytes)
 {
-    if (answer_lent > WAGE_ANSWER_BYTES && answer[WAGE_ANSWER_BYTES] != (answer[0] == WAGE_FINE ? WAGE_RECORD_BYTES : 0)) {
+    if (answer_lent > WAGE_ANSWER_BYTES && answer[WAGE_ANSWER_BYTES] != (answer[0] == WAGE_FINE ? bytes : 0)) {
         stop("a record written has another length");
     }
     put_words(answer, WAGE_ANSWER_BYTES);
     put_bytes(slice, length);
+}
+
+static uint64_t write_call(struct text s, const uint64_t *st, uint8_t *out, size_t length, uint64_t *an)
+{
+    int t = s.length > 1 && s.at[1] == 'T';
+    if (s.at[0] == 'R') {
+        return (t ? wage_write_t : wage_write_f)(st, words_lent, out, length, an, answer_lent);
+    }
+    if (!t) {
+        return wage_wham_write_f(st, words_lent, out, length, an, answer_lent);
+    }
+    return wage_wham_write_t(st, words_lent, number_in(s, 6, 25), number_in(s, 26, 45), out, length, an, answer_lent);
 }
 
 static void record_written(struct text s)
@@ -356,10 +369,10 @@ static void record_written(struct text s)
     const uint64_t *st = lend(STATE, state, words_lent * sizeof *state);
     uint8_t *out = lend(OUT, slice, length);
     uint64_t *an = lend_answer();
-    take_answer((s.length > 1 && s.at[1] == 'T' ? wage_write_t : wage_write_f)(st, words_lent, out, length, an, answer_lent));
+    take_answer(write_call(s, st, out, length, an));
     take_back_same(STATE, state, words_lent * sizeof *state);
     take_back(OUT, slice, length);
-    put_record(slice, length);
+    put_record(slice, length, s.at[0] == 'R' ? WAGE_RECORD_BYTES : WAGE_WHAM_RECORD_BYTES);
 }
 
 static void record_built(struct text s)
@@ -378,7 +391,7 @@ static void record_built(struct text s)
     take_back_same(STATE, values, count * sizeof *values);
     take_back_same(BYTES, texts.at, texts.length);
     take_back(OUT, slice, length);
-    put_record(slice, length);
+    put_record(slice, length, WAGE_RECORD_BYTES);
 }
 
 static void field_read(struct text s)
@@ -501,6 +514,7 @@ static void command(struct text s)
         line_beyond(s);
         break;
     case 'R':
+    case 'H':
         record_written(s);
         break;
     case 'F':

@@ -14,9 +14,10 @@
 
 // Enough S records after each other for the longest run, in which each of the library's ways to look for an identity number is taken.
 enum { EMPLOYEES = 3000, LINES = EMPLOYEES + 4, LINE = WAGE_RECORD_BYTES + 1, PAINTED = 1 << 20, PAINT = 0xA5, OWN_FRAME = 256 };
+enum { WHAM_LINES = 6, WHAM_LINE = WAGE_WHAM_RECORD_BYTES + 1 };
 
-static uint8_t file[LINES * LINE];
-static size_t length;
+static uint8_t file[LINES * LINE], wham_file[WHAM_LINES * WHAM_LINE];
+static size_t length, wham_length;
 static uint64_t state[WAGE_STATE_WORDS], answer[WAGE_ANSWER_WORDS];
 static uint32_t ids[EMPLOYEES];
 static wage_employer list[2];
@@ -88,6 +89,26 @@ static void *call_write_t(void *none)
 static void *call_write_f(void *none)
 {
     expect("wage_write_f", wage_write_f(state, WAGE_STATE_WORDS, record, WAGE_RECORD_BYTES, answer, WAGE_ANSWER_WORDS), WAGE_FINE);
+    return none;
+}
+
+static uint8_t wham_record[WHAM_LINE];
+
+static void *call_wham_write_t(void *none)
+{
+    expect("wage_wham_write_t", wage_wham_write_t(state, WAGE_STATE_WORDS, 10000, 0, wham_record, WAGE_WHAM_RECORD_BYTES, answer, WAGE_ANSWER_WORDS), WAGE_FINE);
+    return none;
+}
+
+static void *call_wham_write_f(void *none)
+{
+    expect("wage_wham_write_f", wage_wham_write_f(state, WAGE_STATE_WORDS, wham_record, WAGE_WHAM_RECORD_BYTES, answer, WAGE_ANSWER_WORDS), WAGE_FINE);
+    return none;
+}
+
+static void *call_wham_whole(void *none)
+{
+    expect("wage_whole of WHAM", wage_whole(WAGE_FORMAT_WHAM_2024, 2026, 6, wham_file, wham_length, state, WAGE_STATE_WORDS, answer, WAGE_ANSWER_WORDS, NULL, 0, list, 2), WAGE_FINE);
     return none;
 }
 
@@ -186,6 +207,35 @@ static void employee(uint64_t identity)
     values[WAGE_S_FEIN] = 12345678;
 }
 
+// A record of an amended withholding file: texts at their columns, and blanks.
+struct part {
+    size_t column;
+    const char *text;
+};
+
+static const struct part wham_a[] = {{1, "A2026010101010WHAM"}, {24, "Pine Tree Payroll"}, {74, "1 State Street"}, {114, "Augusta"}, {139, "ME"}, {154, "04330"},
+                                     {164, "Jo North"}, {194, "2075551212"}, {0, NULL}};
+static const struct part wham_e[] = {{1, "E2026012345678"}, {24, "Orchard Hill"}, {74, "4 Ridge Road"}, {114, "Bangor"}, {139, "ME"}, {154, "04401"}, {167, "WHAM23"},
+                                     {188, "031"}, {209, "000000000"}, {225, "0001"}, {258, "1234-5678"}, {0, NULL}};
+static const struct part wham_s[] = {{1, "S001020003ROY"}, {31, "ANN"}, {44, "23032026"}, {143, "WHAM"}, {191, "000000010000"}, {203, "000000001070"}, {215, "1234-5678"}, {0, NULL}};
+static const struct part wham_r[] = {{1, "R03312026"}, {19, "000008930"}, {0, NULL}};
+
+static void put_wham(const struct part *parts)
+{
+    memset(wham_record, ' ', WAGE_WHAM_RECORD_BYTES);
+    for (; parts->text != NULL; parts++) {
+        memcpy(wham_record + parts->column - 1, parts->text, strlen(parts->text));
+    }
+}
+
+static void hand_on_wham(void)
+{
+    wham_record[WAGE_WHAM_RECORD_BYTES] = '\n';
+    memcpy(wham_file + wham_length, wham_record, WHAM_LINE);
+    expect("a line of WHAM", wage_line(state, WAGE_STATE_WORDS, wham_record, WHAM_LINE, answer, WAGE_ANSWER_WORDS, NULL, 0, list, 2), WAGE_FINE);
+    wham_length += WHAM_LINE;
+}
+
 // The record goes after the file, and to the walk that goes with it.
 static void hand_on(void)
 {
@@ -251,9 +301,27 @@ static int measure_all(void)
     return within;
 }
 
+// The same for the calls that write records of an amended withholding file.
+static int measure_wham(void)
+{
+    static const struct part *const records[] = {wham_a, wham_e, wham_r, wham_s};
+    int within;
+    expect("an opening of WHAM", wage_open(WAGE_FORMAT_WHAM_2024, 2026, 6, state, WAGE_STATE_WORDS, answer, WAGE_ANSWER_WORDS, NULL, 0, list, 2), WAGE_FINE);
+    for (size_t i = 0; i < sizeof records / sizeof *records; i++) {
+        put_wham(records[i]);
+        hand_on_wham();
+    }
+    within = measure("wage_wham_write_t", call_wham_write_t);
+    hand_on_wham();
+    within &= measure("wage_wham_write_f", call_wham_write_f);
+    hand_on_wham();
+    return within;
+}
+
 // The calls one after the other, on one thread.
 static void *call_all(void *none)
 {
+    call_wham_whole(NULL);
     call_abi_version(NULL);
     call_whole(NULL);
     call_frames(NULL);
@@ -279,6 +347,7 @@ int main(void)
         stop("no memory");
     }
     int within = measure_all();
+    within &= measure_wham();
     fflush(stdout);
     on_stack(NULL, WAGE_STACK_BYTES, call_all);
     return within ? 0 : 1;

@@ -105,6 +105,30 @@ extern "C" {
         answer_length: usize,
     ) -> u64;
 
+    /// Writes the T record of an amended withholding file that the walk accepts next. It asks for
+    /// 275 bytes, else it answers 83.
+    pub fn wage_wham_write_t(
+        state: *const u64,
+        state_length: usize,
+        payments: u64,
+        total: u64,
+        out: *mut u8,
+        out_length: usize,
+        answer: *mut u64,
+        answer_length: usize,
+    ) -> u64;
+
+    /// Writes the F record of an amended withholding file that the walk accepts next. It asks for
+    /// 275 bytes, else it answers 83.
+    pub fn wage_wham_write_f(
+        state: *const u64,
+        state_length: usize,
+        out: *mut u8,
+        out_length: usize,
+        answer: *mut u64,
+        answer_length: usize,
+    ) -> u64;
+
     /// Builds an A record from unpadded values and texts. It asks for 290 bytes, else it answers
     /// 84.
     pub fn wage_build_a(

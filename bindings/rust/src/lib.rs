@@ -44,6 +44,9 @@ pub fn abi_version() -> u64 {
 /// The number of the format PFML, the paid leave wage file.
 pub const FORMAT_PFML: u64 = 0;
 
+/// The number of the format WHAM 2024, the amended withholding file of edition 2024.
+pub const FORMAT_WHAM_2024: u64 = 1;
+
 /// What the state of a walk holds that was opened with a number that names no format.
 pub const FORMAT_NONE: u64 = 255;
 
@@ -153,8 +156,9 @@ impl Walk {
     }
 
     /// Reads the first line of the bytes, and tells how many of them it takes, its end included.
-    /// The bytes are all that remains of the file, or at least 292 of them; what comes after the
-    /// line is ignored. After a refusal of the file each later line and the end answer it again.
+    /// The bytes are all that remains of the file, or at least two more than a record has, so 292 are
+    /// enough in every format; what comes after the line is ignored. After a refusal of the file each
+    /// later line and the end answer it again.
     pub fn line(&mut self, bytes: &[u8]) -> Result<usize, Refusal> {
         let (state, ids, list) = (&mut self.state, &mut self.ids, &mut self.list);
         let mut answer = [0; 4];
@@ -250,6 +254,43 @@ impl Walk {
         let mut answer = [0; 4];
         unsafe {
             exports::wage_write_f(
+                self.state.as_ptr(),
+                self.state.len(),
+                out.as_mut_ptr(),
+                out.len(),
+                answer.as_mut_ptr(),
+                answer.len(),
+            )
+        };
+        told(answer).map(drop)
+    }
+
+    /// Writes the T record of an amended withholding file that the walk accepts next into 275
+    /// bytes, without a line end. `payments` are the cents of its columns 112 to 122; `total` is
+    /// read in edition 2020 alone, of which there is no format yet. Refused as [`Walk::write_t`]
+    /// refuses, and with 82 also for payments that are too large.
+    pub fn wham_write_t(&self, payments: u64, total: u64, out: &mut [u8]) -> Result<(), Refusal> {
+        let mut answer = [0; 4];
+        unsafe {
+            exports::wage_wham_write_t(
+                self.state.as_ptr(),
+                self.state.len(),
+                payments,
+                total,
+                out.as_mut_ptr(),
+                out.len(),
+                answer.as_mut_ptr(),
+                answer.len(),
+            )
+        };
+        told(answer).map(drop)
+    }
+
+    /// The same for F, which no 81 refuses; it may also follow an E that says 0 and has no T.
+    pub fn wham_write_f(&self, out: &mut [u8]) -> Result<(), Refusal> {
+        let mut answer = [0; 4];
+        unsafe {
+            exports::wage_wham_write_f(
                 self.state.as_ptr(),
                 self.state.len(),
                 out.as_mut_ptr(),

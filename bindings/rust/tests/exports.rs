@@ -5,10 +5,14 @@ use std::fs;
 use std::path::{Path, PathBuf};
 use wage::fields::*;
 use wage::{abi_version, exports, field_number, field_text, Employer, Record, Refusal, Walk};
-use wage::{ABI_VERSION, FORMAT_NONE, FORMAT_PFML, NO_ACCOUNT, STATE_WORDS, UNKNOWN_FORMAT};
+use wage::{ABI_VERSION, FORMAT_NONE, FORMAT_PFML, FORMAT_WHAM_2024};
+use wage::{NO_ACCOUNT, STATE_WORDS, UNKNOWN_FORMAT};
 
 const YEAR: u64 = 2026;
 const MONTH: u64 = 6;
+/// Each format with the length of its records and the folder of its examples.
+const FORMATS: [(u64, usize, &str); 2] =
+    [(FORMAT_PFML, 290, ""), (FORMAT_WHAM_2024, 275, "wham-2024")];
 /// The examples of the current quarter: the last closed one is the quarter before theirs.
 const EARLIER: [&str; 2] = ["accepted-closing-this-quarter", "refused-65-not-final"];
 const STANDING: usize = 0;
@@ -23,10 +27,10 @@ fn example(name: &str) -> Vec<u8> {
     fs::read(path.join(name)).expect("the example is there")
 }
 
-/// The example files.
-fn examples() -> Vec<PathBuf> {
+/// The example files of a folder.
+fn examples(folder: &str) -> Vec<PathBuf> {
     let path = Path::new(env!("CARGO_MANIFEST_DIR")).join("../../examples");
-    let files = fs::read_dir(path).expect("the folder is there");
+    let files = fs::read_dir(path.join(folder)).expect("the folder is there");
     let paths = files.map(|file| file.expect("it can be read").path());
     let is_text = |path: &PathBuf| path.extension().is_some_and(|end| end == "txt");
     paths.filter(is_text).collect()
@@ -47,39 +51,41 @@ fn number(answer: Result<usize, Refusal>) -> u64 {
 
 #[test]
 fn whole_files() {
-    assert!(examples().len() >= 5);
-    for path in examples() {
-        let mut walk = Walk::new(8192, 1024);
-        let answer = walk.whole(FORMAT_PFML, YEAR, month(&path), &fs::read(&path).unwrap());
-        let accepted = path
-            .file_name()
-            .unwrap()
-            .to_string_lossy()
-            .starts_with("accepted");
-        assert_eq!(answer.is_ok(), accepted, "{}", path.display());
-        let frames = fs::read(path.with_extension("frames")).unwrap();
-        assert_eq!(walk.frames(), Ok(frames), "{}", path.display());
+    for (format, _, folder) in FORMATS {
+        assert!(examples(folder).len() >= 5);
+        for path in examples(folder) {
+            let mut walk = Walk::new(8192, 1024);
+            let answer = walk.whole(format, YEAR, month(&path), &fs::read(&path).unwrap());
+            let accepted = path
+                .file_name()
+                .unwrap()
+                .to_string_lossy()
+                .starts_with("accepted");
+            assert_eq!(answer.is_ok(), accepted, "{}", path.display());
+            let frames = fs::read(path.with_extension("frames")).unwrap();
+            assert_eq!(walk.frames(), Ok(frames), "{}", path.display());
+        }
     }
 }
 
-/// Calls that are lent 292 bytes leave what the call over the whole file leaves.
+/// Calls that are lent two bytes more than a record has leave what the call over the whole file
+/// leaves.
 #[test]
 fn files_line_by_line() {
-    for path in examples() {
-        let (mut walk, mut other) = (Walk::new(9, 3), Walk::new(9, 3));
-        let file = fs::read(&path).unwrap();
-        let mut rest = &file[..];
-        walk.open(FORMAT_PFML, YEAR, month(&path)).unwrap();
-        while let Some(Ok(taken)) =
-            (!rest.is_empty()).then(|| walk.line(&rest[..rest.len().min(292)]))
-        {
-            rest = &rest[taken..];
+    for (format, length, folder) in FORMATS {
+        for path in examples(folder) {
+            let (mut walk, mut other) = (Walk::new(9, 3), Walk::new(9, 3));
+            let file = fs::read(&path).unwrap();
+            let mut rest = &file[..];
+            walk.open(format, YEAR, month(&path)).unwrap();
+            while let Some(Ok(taken)) =
+                (!rest.is_empty()).then(|| walk.line(&rest[..rest.len().min(length + 2)]))
+            {
+                rest = &rest[taken..];
+            }
+            assert_eq!(walk.end(), other.whole(format, YEAR, month(&path), &file));
+            assert_eq!(walk, other);
         }
-        assert_eq!(
-            walk.end(),
-            other.whole(FORMAT_PFML, YEAR, month(&path), &file)
-        );
-        assert_eq!(walk, other);
     }
 }
 
@@ -174,6 +180,93 @@ fn records_written() {
     assert_eq!(walk.end(), Ok(()));
 }
 
+/// The employers of an amended withholding file, without a table of identity numbers: that of the E
+/// that says 0 and has no T stays at zero.
+#[test]
+fn employers_of_an_amended_file() {
+    let file = example("wham-2024/accepted-two-employers.txt");
+    let mut walk = Walk::new(0, 3);
+    walk.whole(FORMAT_WHAM_2024, YEAR, MONTH, &file).unwrap();
+    let entry = |fein, count, cents| Employer {
+        fein,
+        count,
+        cents,
+        ..Employer::default()
+    };
+    let entries = [entry(700_000_000, 0, 0), entry(12_345_678, 2, 123_500)];
+    assert_eq!(walk.list[..2], entries);
+    assert_eq!(walk.list[2], Employer::default());
+}
+
+/// A list of one entry, A, and two E records that say 0.
+#[test]
+fn no_room_for_an_amending_employer() {
+    let file = example("wham-2024/accepted-two-employers.txt");
+    let (a, e) = (&file[..276], &file[276..552]);
+    let mut walk = Walk::new(0, 1);
+    let refusal = Refusal {
+        number: 63,
+        line: 3,
+        column: 6,
+    };
+    let whole = walk.whole(FORMAT_WHAM_2024, YEAR, MONTH, &[a, e, e].concat());
+    assert_eq!(whole, Err(refusal));
+    assert_eq!(walk.list, [Employer::default()]);
+}
+
+/// A T and an F that the library writes in place of the file's own, of which the payments are read.
+#[test]
+fn amended_records_written() {
+    for (name, payments) in [
+        ("accepted-one-employer", 123_500),
+        ("accepted-two-employers", 123_500),
+        ("accepted-overpaid", 10_000),
+        ("accepted-fein-69", 123_500),
+    ] {
+        let file = example(&format!("wham-2024/{name}.txt"));
+        let mut walk = Walk::new(0, 2);
+        walk.open(FORMAT_WHAM_2024, YEAR, MONTH).unwrap();
+        for line in file.chunks(276) {
+            let mut out = line.to_vec();
+            match line[0] {
+                b'T' => walk.wham_write_t(payments, 9, &mut out[..275]).unwrap(),
+                b'F' => walk.wham_write_f(&mut out[..275]).unwrap(),
+                _ => (),
+            }
+            assert_eq!(out, line, "{name}");
+            assert_eq!(walk.line(&out), Ok(276), "{name}");
+        }
+        assert_eq!(walk.end(), Ok(()));
+    }
+}
+
+/// 83 before 80, which is also the answer for a walk of the other format, and that before 82.
+#[test]
+fn amended_records_not_written() {
+    let file = example("wham-2024/accepted-overpaid.txt");
+    let mut walk = Walk::new(0, 1);
+    walk.open(FORMAT_WHAM_2024, YEAR, MONTH).unwrap();
+    for line in file.chunks(276).take(3) {
+        walk.line(line).unwrap();
+    }
+    let mut out = [b'.'; 290];
+    let most = 100_000_000_000;
+    let t = |out: &mut [u8], payments| walk.wham_write_t(payments, 0, out).unwrap_err().number;
+    assert_eq!(t(&mut out[..274], most), 83);
+    assert_eq!(t(&mut out[..275], most), 82);
+    assert_eq!(walk.wham_write_f(&mut out).unwrap_err().number, 83);
+    assert_eq!(walk.wham_write_f(&mut out[..275]).unwrap_err().number, 80);
+    assert_eq!(walk.write_t(&mut out).unwrap_err().number, 80);
+    assert_eq!(walk.write_f(&mut out).unwrap_err().number, 80);
+    let mut other = Walk::new(0, 1);
+    other.open(FORMAT_PFML, YEAR, MONTH).unwrap();
+    let refusal = other.wham_write_t(most, 0, &mut out[..275]).unwrap_err();
+    assert_eq!(refusal.number, 80);
+    assert_eq!(out, [b'.'; 290]);
+    assert_eq!(walk.wham_write_t(most - 1, 0, &mut out[..275]), Ok(()));
+    assert_eq!(out[111..136], *b"99999999999-0099999998929");
+}
+
 #[test]
 fn walks_that_have_ended_or_not() {
     let mut walk = Walk::new(2, 1);
@@ -238,7 +331,7 @@ fn version() {
 #[test]
 fn openings_of_no_format() {
     let file = example("accepted-one-employer.txt");
-    for (format, month, number) in [(1, MONTH, 73), (9, 5, 70), (u64::MAX, MONTH, 73)] {
+    for (format, month, number) in [(5, MONTH, 73), (9, 5, 70), (u64::MAX, MONTH, 73)] {
         let mut walk = Walk::new(2, 1);
         walk.ids = vec![5, 6];
         let ids = walk.ids.clone();
@@ -267,7 +360,7 @@ fn openings_of_no_format() {
 fn format_altered() {
     let mut walk = Walk::new(2, 1);
     walk.open(FORMAT_PFML, YEAR, MONTH).unwrap();
-    for format in [1, FORMAT_NONE, 1 << 32, u64::MAX] {
+    for format in [5, FORMAT_NONE, 1 << 32, u64::MAX] {
         let mut other = walk.clone();
         other.state[FORMAT] = format;
         let kept = other.clone();
@@ -491,16 +584,19 @@ fn refusals_as_sentences() {
     assert_eq!(build.to_string(), "refused: reason 38 in column 2");
 }
 
-/// The inputs of the reference: eight digits of the length, a blank, five digits, LF, the bytes.
-fn inputs(text: &[u8]) -> Vec<&[u8]> {
+/// The inputs of the reference, each after the number of its format: eight digits of the length, a
+/// blank, five digits, a blank, one digit of the format, LF, the bytes.
+fn inputs(text: &[u8]) -> Vec<(u64, &[u8])> {
     let (mut found, mut rest) = (Vec::new(), text);
     while !rest.is_empty() {
-        let length = std::str::from_utf8(&rest[..8])
+        let (head, behind) = rest.split_at(17);
+        let length = std::str::from_utf8(&head[..8])
             .unwrap()
             .parse::<usize>()
             .unwrap();
-        found.push(&rest[15..15 + length]);
-        rest = &rest[15 + length..];
+        let (input, next) = behind.split_at(length);
+        found.push((u64::from(head[15] - b'0'), input));
+        rest = next;
     }
     found
 }
@@ -531,10 +627,10 @@ fn files_of_the_reference() {
     let given = inputs(&given);
     let expected: Vec<&str> = expected.split(".\n").collect();
     assert_eq!(given.len() + 1, expected.len());
-    for (k, (input, frames)) in given.iter().zip(expected).enumerate() {
+    for (k, ((format, input), frames)) in given.iter().zip(expected).enumerate() {
         let (quarter, file) = header(input);
         let mut walk = Walk::new(8192, 1024);
-        let _ = walk.whole(FORMAT_PFML, quarter / 100, quarter % 100, file);
+        let _ = walk.whole(*format, quarter / 100, quarter % 100, file);
         assert_eq!(
             String::from_utf8(walk.frames().unwrap()).unwrap(),
             frames,

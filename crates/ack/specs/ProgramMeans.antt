@@ -104,7 +104,7 @@ module _ (held : Opening) (file : List ℕ) (t : Tables) (room : roomOf t ≡ pr
   file-written = at (mayOpen held) refl where
     at : (allowed : Bool) → mayOpen held ≡ allowed → WritesFor (wholeFile held file t) (fileFrames held file)
     at true e = rw (e, room) (meant-written e (meaning programRoom held file) refl)
-    at false e = rw e (refused-written (held .format) (openingNotice held) (t .list) out (left-opening held) h)
+    at false e = rw e (refused-written (held .format) (openingNotice held) (t .list) out (left-opening held e) h)
 
 -- For every format and every way of cutting the input into reads, the turns end, and the frames written are the acknowledgement of all that was read.
 pub program-means : (format : Format) (reads : List (List ℕ)) (t : Tables) → roomOf t ≡ programRoom → (out : List ℕ) → enough ≤ length out

@@ -6,7 +6,7 @@ use mathlib.Core.Path.{_≡_}
 use lib.Dec.{eqb}
 use Rattle.laws.specs.Choice.{if_then_else_}
 use Rattle.lines.specs.Lines.{Line, linesOf, joined}
-use Rattle.shape.specs.Hidden.{isEmployee, isEmployer, employeeOn, blot, MeetsOwn}
+use Rattle.shape.specs.Hidden.{isEmployee, isEmployer, isNote, employeeOn, blot, MeetsOwn}
 use Rattle.shape.specs.Shape.{Shape}
 use Rattle.tables.specs.Tables.{isAmong}
 
@@ -20,10 +20,10 @@ module _ (s : Shape) where
   employees [] = []
   employees (line ∷ lines) = if isEmployee s line then line ∷ employees lines else employees lines
 
-  -- "The S records under an E are those after it with no other line between."
+  -- "The S records under an E are those after it with no other line between"; in a format that has them a note parts none from its E.
   unfoldable pub under : List Line → List Line
   under [] = []
-  under (line ∷ lines) = if isEmployee s line then line ∷ under lines else []
+  under (line ∷ lines) = if isEmployee s line then line ∷ under lines else (if isNote s line then under lines else [])
 
   -- For each E record, the S records under it.
   unfoldable pub employers : List Line → List (List Line)

@@ -8,14 +8,13 @@ use lib.Dec.{leb}
 use lib.ListN.{length}
 use Rattle.calendar.specs.declared.Quarter.{Quarter}
 use Rattle.lines.specs.Lines.{Line}
-use Rattle.edits.specs.Counted.{openWith, totalsWith, openButSums, totalsButSums}
+use Rattle.edits.specs.Counted.{withoutSums, openWith, totalsWith, openButSums, totalsButSums}
 use Rattle.edits.specs.declared.Open.{Open}
 use Rattle.edits.specs.declared.Opening.{Opening}
 use Rattle.edits.specs.declared.Phase.{Phase}
 use Rattle.edits.specs.declared.Phase.the-variants.{EOpen}
 use Rattle.edits.specs.declared.Totals.{Totals}
 use Rattle.shape.specs.Shape.{Shape}
-use Rattle.shape.specs.Twins.{withoutSums}
 use Rattle.shape.specs.declared.Said.{Said}
 use Rattle.tables.specs.Room.{Room, entriesUsed}
 use Rattle.tables.specs.Tables.{isAmong}

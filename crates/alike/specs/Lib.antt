@@ -11,3 +11,7 @@ pub mod Hypotheses
 pub mod HypothesisTests
 pub mod Pair
 pub mod Needed
+pub mod Ignored
+pub mod IgnoredLaws
+pub mod OrderedWham
+pub mod OrderedWhamLaws

@@ -18,16 +18,17 @@ use Rattle.edits.specs.declared.Phase.the-variants.{BeforeA, AfterA, EOpen, Aft
 use Rattle.shape.specs.Blot.{employee-alike, line-same}
 use Rattle.shape.specs.EndOfInputLaws.{endTest, end-parts}
 use Rattle.shape.specs.Fits.{Fits}
-use Rattle.shape.specs.Hidden.{ofEmployee, ofEmployer, isEmployee, employeeOn, blot}
-use Rattle.shape.specs.Judged.{employee-said, said-employee, said-employer}
+use Rattle.shape.specs.Hidden.{ofEmployee, ofEmployer, ofNote, isEmployee, isNote, employeeOn, blot}
+use Rattle.shape.specs.Judged.{employee-said, said-employee, said-employer, said-note, note-said}
 use Rattle.shape.specs.Lawful.{Lawful}
 use Rattle.shape.specs.Shape.{Shape, passed, verdictBy}
 use Rattle.shape.specs.declared.EmployerOn.{EmployerOn}
+use Rattle.shape.specs.declared.Note.{Note}
 use Rattle.shape.specs.declared.Said.{Said}
-use Rattle.shape.specs.declared.Said.the-variants.{OfA, OfE, OfS, OfT, OfF, OfNone}
+use Rattle.shape.specs.declared.Said.the-variants.{OfA, OfE, OfS, OfT, OfF, OfNote, OfNone}
 use Rattle.record.specs.ShapeOf.{shapeOf}
 use Rattle.record.specs.Judge.{recordOn, editsAmong}
-use Rattle.record.specs.Laws.{judge-says, judged-length, alike-judged, other-judged, passed-fits, lawfulOf}
+use Rattle.record.specs.Laws.{judge-says, judged-length, alike-judged, note-judged, other-judged, passed-fits, lawfulOf}
 use Rattle.tables.specs.Laws.{among-none}
 use Rattle.tables.specs.Room.{Room}
 use Rattle.tables.specs.Tables.{isAmong}
@@ -38,8 +39,8 @@ use Rattle.step.specs.Steps.{Out}
 use Rattle.walk.specs.Calls.{leaves}
 use Rattle.alike.specs.Alike.{under, repeats, repeatsAfter, wagesOf, secondsOf, idOf, AlikeLines}
 use Rattle.alike.specs.Level.{Level, Holds, SameSums, Run, shut, running, open-alike, totals-alike, context-same, context-alike}
-use Rattle.alike.specs.Onward.{holds-more, level-employee, never-zero, Other, Begins, level-other, run-other}
-use Rattle.alike.specs.Rest.{under-more, under-none, under-end, repeats-more, wages-more, wages-none, seconds-more, seconds-none, heads, line-alike, one-meets, other-meets, zero-same, of-employer, rest}
+use Rattle.alike.specs.Onward.{holds-more, level-employee, level-note, never-zero, Other, Begins, level-other, run-other}
+use Rattle.alike.specs.Rest.{under-more, under-note, under-none, under-end, repeats-more, wages-more, wages-none, seconds-more, seconds-none, heads, line-alike, one-meets, other-meets, zero-same, of-employer, rest}
 
 -- ---- what is asked of an identity number
 -- A number other than zero was seen under both or under neither; zero under neither.
@@ -115,7 +116,7 @@ module _ (room : Room) (held : Opening) where
         → meaningFrom room held p (line ∷ lines) ≡ refused (notice number (length p + 1) column)
     refuses column number e = meaning-refuses room held p line lines column number (verdict (broken column number) e)
 
-    fits : firstBroken (editsAt room held p line) ≡ fine → Fits (contextAt room held p) said
+    fits : firstBroken (editsAt room held p line) ≡ fine → Fits s (contextAt room held p) said
     fits e = passed-fits (contextAt room held p) (onEarlierE p) (underThisE p) line (sizeOf line) said (verdict fine e)
 
     -- It is as long as the format's lines are.
@@ -158,37 +159,70 @@ module _ (room : Room) (held : Opening) where
           taken e =
               let says = employee-said s one is in
               let says' = employee-said s other (other-is s l one other ones others all is p q) in
-              let opened = subst (Fits (contextAt room held p)) says (fits p one ones e) .0 in
+              let opened = subst (Fits s (contextAt room held p)) says (fits p one ones e) .0 in
               rw (says, says') (more _ _ (rest s l one other ones others all)
               (level-employee p q (employeeOn s one) (employeeOn s other) level (zero s l one other ones others all is p q))
               (run-on s l one other ones others all is p q opened run))
 
-    -- ---- any other line, the same in both files
-    sums-alike : isEmployee s one ≡ false → SameSums p q
-    sums-alike none = by run where
-      by : Run s p q (one ∷ ones) (other ∷ others) → SameSums p q
-      by (shut phase sum ids ids') = sum
-      by (running earlier before hp hq repeats-same sums seconds) =
-          let other-none : isEmployee s other ≡ false = rw (← employee-alike s l one other same) none in
-          let wages = rw (under-none s one ones none, under-none s other others other-none, wages-none s) at sums in
-          let second = rw (under-none s one ones none, under-none s other others other-none, seconds-none s) at seconds in
-          (omega (arith, wages), omega (arith, second))
-
-    judged-same : isEmployee s one ≡ false → firstBroken (editsAt room held p one) ≡ firstBroken (editsAt room held q other)
-    judged-same none =
-        other-judged (contextAt room held p) (onEarlierE p) (underThisE p) (underThisE q) one none
-        ∙ ap (λ (here : Context). firstBroken (editsAmong here (onEarlierE p) (underThisE q) one)) (context-same p q level (sums-alike none) room held)
+    -- ---- a note, the same in both files: the S records under its E go on after it
+    judged-note : isEmployee s one ≡ false → isNote s one ≡ true → firstBroken (editsAt room held p one) ≡ firstBroken (editsAt room held q other)
+    judged-note none note =
+        note-judged (contextAt room held p) (contextAt room held q) (context-alike p q level room held) one note (onEarlierE p) (underThisE p) (underThisE q)
         ∙ ap (λ (feins : List ℕ). firstBroken (editsAmong (contextAt room held q) (λ fein. isAmong fein feins) (underThisE q) one)) (level .feins)
         ∙ ap (λ (line : Line). firstBroken (editsAt room held q line)) (line-same s l one other same none)
 
-    -- A line that passes and is no S record says something else.
-    other-said : isEmployee s one ≡ false → firstBroken (editsAt room held p one) ≡ fine → (says : Said) → recordOn (held .format) one ≡ says → Other says
-    other-said none e (OfA quarter) is = tt
-    other-said none e (OfE employer) is = tt
-    other-said none e (OfS employee) is = absurd (false≢true (sym none ∙ said-employee s one (long p one ones e) (ap ofEmployee is)))
-    other-said none e OfT is = tt
-    other-said none e OfF is = tt
-    other-said none e OfNone is = absurd (subst (Fits (contextAt room held p)) is (fits p one ones e))
+    run-note : isEmployee s one ≡ false → isNote s one ≡ true → (note : Note) → Run s (OfNote note ∷ p) (OfNote note ∷ q) ones others
+    run-note none is note = by run where
+      by : Run s p q (one ∷ ones) (other ∷ others) → Run s (OfNote note ∷ p) (OfNote note ∷ q) ones others
+      by (shut phase sum ids ids') = shut phase sum ids ids'
+      by (running earlier before hp hq repeats-same sums seconds) =
+          let alike = line-same s l one other same none in
+          let mine = under-note s one ones none is in
+          let theirs = under-note s other others (rw (← alike) none) (rw (← alike) is) in
+          running earlier before hp hq (rw (mine, theirs) at repeats-same) (rw (mine, theirs) at sums) (rw (mine, theirs) at seconds)
+
+    note-line : isEmployee s one ≡ false → isNote s one ≡ true
+        → ((p q : List Said) → AlikeLines s ones others → Level p q → Run s p q ones others → Same p q ones others)
+        → Same p q (one ∷ ones) (other ∷ others)
+    note-line none is more =
+        next-line p q one other ones others (level .lines) (firstBroken (editsAt room held p one)) refl (sym (judged-note none is)) taken where
+          taken : firstBroken (editsAt room held p one) ≡ fine → Same (recordOn (held .format) one ∷ p) (recordOn (held .format) other ∷ q) ones others
+          taken e =
+              let says = note-said s one is in
+              let note = says .0 in
+              subst (λ (line : Line). Same (recordOn (held .format) one ∷ p) (recordOn (held .format) line ∷ q) ones others) (line-same s l one other same none)
+              (rw (says .1) (more (OfNote note ∷ p) (OfNote note ∷ q) (rest s l one other ones others all) (level-note p q note level) (run-note none is note)))
+
+    -- ---- any other line, the same in both files
+    sums-alike : isEmployee s one ≡ false → isNote s one ≡ false → SameSums p q
+    sums-alike none no-note = by run where
+      by : Run s p q (one ∷ ones) (other ∷ others) → SameSums p q
+      by (shut phase sum ids ids') = sum
+      by (running earlier before hp hq repeats-same sums seconds) =
+          let alike = line-same s l one other same none in
+          let mine = under-none s one ones none no-note in
+          let theirs = under-none s other others (rw (← alike) none) (rw (← alike) no-note) in
+          let wages = rw (mine, theirs, wages-none s) at sums in
+          let second = rw (mine, theirs, seconds-none s) at seconds in
+          (omega (arith, wages), omega (arith, second))
+
+    judged-same : isEmployee s one ≡ false → isNote s one ≡ false → firstBroken (editsAt room held p one) ≡ firstBroken (editsAt room held q other)
+    judged-same none no-note =
+        other-judged (contextAt room held p) (onEarlierE p) (underThisE p) (underThisE q) one none
+        ∙ ap (λ (here : Context). firstBroken (editsAmong here (onEarlierE p) (underThisE q) one)) (context-same p q level (sums-alike none no-note) room held)
+        ∙ ap (λ (feins : List ℕ). firstBroken (editsAmong (contextAt room held q) (λ fein. isAmong fein feins) (underThisE q) one)) (level .feins)
+        ∙ ap (λ (line : Line). firstBroken (editsAt room held q line)) (line-same s l one other same none)
+
+    -- A line that passes and is neither an S record nor a note says something else.
+    other-said : isEmployee s one ≡ false → isNote s one ≡ false → firstBroken (editsAt room held p one) ≡ fine
+        → (says : Said) → recordOn (held .format) one ≡ says → Other says
+    other-said none no-note e (OfA quarter) is = tt
+    other-said none no-note e (OfE employer) is = tt
+    other-said none no-note e (OfS employee) is = absurd (false≢true (sym none ∙ said-employee s one (long p one ones e) (ap ofEmployee is)))
+    other-said none no-note e OfT is = tt
+    other-said none no-note e OfF is = tt
+    other-said none no-note e (OfNote note) is = absurd (false≢true (sym no-note ∙ said-note s one (long p one ones e) (ap ofNote is)))
+    other-said none no-note e OfNone is = absurd (subst (Fits s (contextAt room held p)) is (fits p one ones e))
 
     begins : firstBroken (editsAt room held p one) ≡ fine → (employer : EmployerOn) → recordOn (held .format) one ≡ OfE employer → Begins s ones others
     begins e employer says =
@@ -198,16 +232,16 @@ module _ (room : Room) (held : Opening) where
           of-employer s l one other ones others all (secondsOf s) (all .seconds-alike) is,
         )
 
-    other-line : isEmployee s one ≡ false
+    other-line : isEmployee s one ≡ false → isNote s one ≡ false
         → ((p q : List Said) → AlikeLines s ones others → Level p q → Run s p q ones others → Same p q ones others)
         → Same p q (one ∷ ones) (other ∷ others)
-    other-line none more =
-        next-line p q one other ones others (level .lines) (firstBroken (editsAt room held p one)) refl (sym (judged-same none)) taken where
+    other-line none no-note more =
+        next-line p q one other ones others (level .lines) (firstBroken (editsAt room held p one)) refl (sym (judged-same none no-note)) taken where
           taken : firstBroken (editsAt room held p one) ≡ fine → Same (recordOn (held .format) one ∷ p) (recordOn (held .format) other ∷ q) ones others
           taken e =
-              let sum = sums-alike none in
+              let sum = sums-alike none no-note in
               let says = recordOn (held .format) one in
-              let is = other-said none e says refl in
+              let is = other-said none no-note e says refl in
               subst (λ (line : Line). Same (says ∷ p) (recordOn (held .format) line ∷ q) ones others) (line-same s l one other same none)
               (more (says ∷ p) (says ∷ q) (rest s l one other ones others all) (level-other p q level sum says is)
               (run-other p q level sum s says is ones others (begins e)))
@@ -264,4 +298,7 @@ module _ (room : Room) (held : Opening) where
     by : (is : Bool) → isEmployee s one ≡ is → ((p q : List Said) → AlikeLines s ones others → Level p q → Run s p q ones others → Same p q ones others)
         → Same p q (one ∷ ones) (other ∷ others)
     by true is more = employee-line p q level one other ones others all run is more
-    by false none more = other-line p q level one other ones others all run none more
+    by false none more = beside (isNote s one) refl where
+      beside : (is : Bool) → isNote s one ≡ is → Same p q (one ∷ ones) (other ∷ others)
+      beside true is = note-line p q level one other ones others all run none is more
+      beside false no-note = other-line p q level one other ones others all run none no-note more

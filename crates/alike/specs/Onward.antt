@@ -16,12 +16,13 @@ use Rattle.edits.specs.declared.Totals.{Totals}
 use Rattle.shape.specs.Shape.{Shape}
 use Rattle.shape.specs.declared.EmployeeOn.{EmployeeOn}
 use Rattle.shape.specs.declared.EmployerOn.{EmployerOn}
+use Rattle.shape.specs.declared.Note.{Note}
 use Rattle.shape.specs.declared.Said.{Said}
-use Rattle.shape.specs.declared.Said.the-variants.{OfA, OfE, OfS, OfT, OfF, OfNone}
+use Rattle.shape.specs.declared.Said.the-variants.{OfA, OfE, OfS, OfT, OfF, OfNote, OfNone}
 use Rattle.tables.specs.Laws.{among-none, among-append}
 use Rattle.tables.specs.TableSteps.{among-more}
 use Rattle.tables.specs.Tables.{isAmong}
-use Rattle.shape.specs.After.{andId}
+use Rattle.shape.specs.After.{andId, oneOther}
 use Rattle.meaning.specs.Before.{idsUnder}
 use Rattle.alike.specs.Alike.{under, repeats, wagesOf, secondsOf}
 use Rattle.alike.specs.Level.{Level, Holds, SameSums, Run, shut, running, open-alike, totals-alike, sumOf, level-same}
@@ -79,7 +80,24 @@ never-zero (OfE employer ∷ p) = among-none 0
 never-zero (OfS employee ∷ p) = none-zero (idsUnder p) (employee .id) (eqb (employee .id) 0) refl (never-zero p)
 never-zero (OfT ∷ p) = among-none 0
 never-zero (OfF ∷ p) = among-none 0
+never-zero (OfNote note ∷ p) = never-zero p
 never-zero (OfNone ∷ p) = among-none 0
+
+-- ---- a note, the same in both files
+pub level-note : (p q : List Said) (note : Note) → Level p q → Level (OfNote note ∷ p) (OfNote note ∷ q)
+level-note p q note level =
+    record {
+      lines = rw (level .lines);
+      phase = level .phase;
+      filed = level .filed;
+      this = level .this;
+      all = ap oneOther (level .all);
+      used = level .used;
+      feins = level .feins;
+      entries = level .entries;
+      sums = level .sums;
+      seconds = level .seconds;
+    }
 
 -- ---- any other record, the same in both files
 abbrev pub Other : Said → Type 0
@@ -88,6 +106,7 @@ Other (OfE employer) = Unit {0}
 Other (OfS employee) = ⊥
 Other OfT = Unit {0}
 Other OfF = Unit {0}
+Other (OfNote note) = ⊥
 Other OfNone = ⊥
 
 -- What an E brings: the S records under it repeat alike and come to the same.
@@ -101,6 +120,7 @@ module _ (p q : List Said) (level : Level p q) (sum : SameSums p q) where
   sum-other (OfS employee) other = absurd other
   sum-other OfT other = rw (level .lines, level .filed, totals-alike p q level sum, level .feins, level .entries, open-alike p q level sum)
   sum-other OfF other = rw (level .lines, level .filed, totals-alike p q level sum, level .feins, level .entries)
+  sum-other (OfNote note) other = absurd other
   sum-other OfNone other = absurd other
 
   pub level-other : (said : Said) → Other said → Level (said ∷ p) (said ∷ q)
@@ -121,4 +141,5 @@ module _ (p q : List Said) (level : Level p q) (sum : SameSums p q) where
   run-other s OfF is one other begins = shut (λ e. after-f e) (refl, refl) refl refl where
     after-f : AfterF ≡ EOpen → ⊥
     after-f e = let z : _≡_ {A = ℕ} 0 1 = cc in omega arith
+  run-other s (OfNote note) is one other begins = absurd is
   run-other s OfNone is one other begins = absurd is

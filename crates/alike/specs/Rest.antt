@@ -9,11 +9,11 @@ use Rattle.laws.specs.Choice.{if_then_else_}
 use Rattle.laws.specs.ChoiceLaws.{both-hold}
 use Rattle.lines.specs.Lines.{Line}
 use Rattle.shape.specs.Blot.{employee-alike, line-same}
-use Rattle.shape.specs.Hidden.{ofEmployee, ofEmployer, isEmployee, isEmployer, employeeOn, blot, MeetsOwn}
+use Rattle.shape.specs.Hidden.{ofEmployee, ofEmployer, isEmployee, isEmployer, isNote, employeeOn, blot, MeetsOwn}
 use Rattle.shape.specs.Lawful.{Lawful}
 use Rattle.shape.specs.Shape.{Shape, saidOn}
 use Rattle.shape.specs.declared.Said.{Said}
-use Rattle.shape.specs.declared.Said.the-variants.{OfA, OfE, OfS, OfT, OfF, OfNone}
+use Rattle.shape.specs.declared.Said.the-variants.{OfA, OfE, OfS, OfT, OfF, OfNote, OfNone}
 use Rattle.tables.specs.Tables.{isAmong}
 use Rattle.alike.specs.Alike.{employees, under, employers, AllMeet, idOf, isZero, repeats, repeatsAfter, wagesOf, secondsOf, AlikeLines}
 
@@ -31,9 +31,13 @@ module _ (s : Shape) (line : Line) (lines : List Line) where
   unfolding under
   under-more is = rw is
 
-  pub under-none : isEmployee s line ≡ false → under s (line ∷ lines) ≡ []
+  pub under-note : isEmployee s line ≡ false → isNote s line ≡ true → under s (line ∷ lines) ≡ under s lines
   unfolding under
-  under-none none = rw none
+  under-note none note = rw (none, note)
+
+  pub under-none : isEmployee s line ≡ false → isNote s line ≡ false → under s (line ∷ lines) ≡ []
+  unfolding under
+  under-none none other = rw (none, other)
 
   employers-more : isEmployer s line ≡ true → employers s (line ∷ lines) ≡ under s lines ∷ employers s lines
   unfolding employers
@@ -85,6 +89,7 @@ no-employer (OfE employer) e = absurd (false≢true e)
 no-employer (OfS employee) e = refl
 no-employer OfT e = refl
 no-employer OfF e = refl
+no-employer (OfNote note) e = refl
 no-employer OfNone e = refl
 
 employee-no-employer : (s : Shape) (line : Line) → isEmployee s line ≡ true → isEmployer s line ≡ false
@@ -92,7 +97,7 @@ employee-no-employer s line is =
     let both = both-hold (eqb (length (line .text)) (s .length)) (ofEmployee (saidOn s line)) is in
     rw (no-employer (saidOn s line) (both .1), and-false (eqb (length (line .text)) (s .length)))
 
-employer-alike : (s : Shape) (l : Lawful s) (one other : Line) → blot s one ≡ blot s other → isEmployer s one ≡ isEmployer s other
+pub employer-alike : (s : Shape) (l : Lawful s) (one other : Line) → blot s one ≡ blot s other → isEmployer s one ≡ isEmployer s other
 employer-alike s l one other same = by (isEmployee s one) refl where
   by : (is : Bool) → isEmployee s one ≡ is → isEmployer s one ≡ isEmployer s other
   by true is = employee-no-employer s one is ∙ sym (employee-no-employer s other (sym (employee-alike s l one other same) ∙ is))

@@ -11,7 +11,7 @@ use Rattle.chars.specs.Characters.{capitals}
 use Rattle.chars.specs.Columns.{widthOf}
 use Rattle.field.specs.Classes.{classOf}
 use Rattle.field.specs.declared.class.Class.{Class}
-use Rattle.field.specs.declared.class.Class.the-variants.{Ignored, RecordLetter, BlankSpace, Numeric, AccountNumber, Flag, ThirdQuarterFlag, Period, RequiredText, OptionalText, PersonName, EntityCode, StateCode, ZipCode, ZipExtension, TaxYear, EmployerFein, IdentityNumber, CeaseDate}
+use Rattle.field.specs.declared.class.Class.the-variants.{Ignored, RecordLetter, BlankSpace, Numeric, AccountNumber, Flag, ThirdQuarterFlag, Period, RequiredText, OptionalText, PersonName, EntityCode, StateCode, ZipCode, ZipExtension, TaxYear, EmployerFein, IdentityNumber, CeaseDate, More}
 use Rattle.edits.specs.FieldRow.{classIn, firstIn, lastIn}
 use Rattle.pfml_fields.specs.Fit.{isNumber}
 use Rattle.edits.specs.Tests.{Readable}
@@ -52,6 +52,7 @@ numbered TaxYear = refl
 numbered EmployerFein = refl
 numbered IdentityNumber = refl
 numbered CeaseDate = refl
+numbered (More class) = refl
 
 -- ---- one field
 module _ (first last : ℕ) (final : List ℕ) (size : length final ≡ 290) where

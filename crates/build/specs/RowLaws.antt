@@ -12,7 +12,8 @@ use Rattle.edits.specs.FieldRow.{classIn, firstIn, lastIn, noRow}
 use Rattle.pfml_fields.specs.Fields.{rowsOf, fields, firstField}
 use Rattle.pfml_fields.specs.Fit.{isNumber, number-width}
 use Rattle.pfml_fields.specs.Rows.{all-fields, in-list, fields-counted, field-in-all, rows-in-order, none-behind}
-use Rattle.pfml_fields.specs.Tiling.{tiles, rows-tile}
+use Rattle.edits.specs.RowTests.{tiles}
+use Rattle.pfml_fields.specs.Tiling.{rows-tile}
 use Rattle.edits.specs.Tests.{Readable}
 use Rattle.pfml.specs.Edits.{rowsFor}
 use Rattle.pfml.specs.Kinds.{placeInOrder, isKnown}
@@ -40,7 +41,7 @@ module _ (kind : Kind) (known : isKnown kind ≡ true) where
   known-counted : firstField (placeInOrder kind + 1) ≡ firstField (placeInOrder kind) + length (rowsFor kind)
   known-counted = rw (rows-at kind) (fields-counted (placeInOrder kind) (known-place kind known))
 
-  pub rows-tiled : tiles 1 (rowsFor kind) ≡ true
+  pub rows-tiled : tiles 290 1 (rowsFor kind) ≡ true
   rows-tiled = rw (rows-at kind) (rows-tile (placeInOrder kind) (known-place kind known))
 
   module _ (k : ℕ) (h : k < length (rowsFor kind)) where

@@ -25,7 +25,8 @@ use Rattle.text.specs.Text.{allBlank}
 use Rattle.text.specs.TextLaws.{all-blank-says}
 use Rattle.field.specs.Classes.{classOf}
 use Rattle.edits.specs.FieldRow.{classIn, firstIn, lastIn, noRow}
-use Rattle.pfml_fields.specs.Tiling.{tiles, tiles-first, row-within}
+use Rattle.edits.specs.RowTests.{tiles}
+use Rattle.edits.specs.RowTestLaws.{tiles-first, row-within}
 use Rattle.pfml.specs.Edits.{rowsFor}
 use Rattle.pfml.specs.Kinds.{kindOf, isKnown}
 use Rattle.write.specs.PartLaws.{put-keeps, put-none, put-first}
@@ -79,12 +80,12 @@ module _ (letter : ℕ) where
   puts rows values texts line = putAll (map partOf (fillRows letter rows values texts)) line
 
   -- Values that are put in from a column on leave what stands before it.
-  puts-before : (rows : List (List ℕ)) (from : ℕ) (values texts line : List ℕ) → tiles from rows ≡ true → (j : ℕ) → j + 1 < from
+  puts-before : (rows : List (List ℕ)) (from : ℕ) (values texts line : List ℕ) → tiles 290 from rows ≡ true → (j : ℕ) → j + 1 < from
       → getD (puts rows values texts line) j 0 ≡ getD line j 0
   unfolding fillRows
   puts-before [] from values texts line t j h = ap (λ (l : List ℕ). getD l j 0) (put-none line)
   puts-before (row ∷ rows) from values texts line t j h =
-      let tile = tiles-first from row rows t in
+      let tile = tiles-first 290 from row rows t in
       let field = filled letter row (getD values 0 0) texts in
       let next = put (partOf field) line in
       ap (λ (l : List ℕ). getD l j 0) (put-first (partOf field) _ line)
@@ -92,14 +93,14 @@ module _ (letter : ℕ) where
       ∙ put-elsewhere (firstIn row) (lastIn row) (field .value) (omega arith) line j (inl (omega arith))
 
   -- Each stands in the line, where it was blank from that column on.
-  pub all-stand : (rows : List (List ℕ)) (from : ℕ) (values texts line : List ℕ) → tiles from rows ≡ true → 1 ≤ from → length line ≡ 290
+  pub all-stand : (rows : List (List ℕ)) (from : ℕ) (values texts line : List ℕ) → tiles 290 from rows ≡ true → 1 ≤ from → length line ≡ 290
       → ((k : ℕ) → from - 1 ≤ k → k < 290 → getD line k 0 ≡ 0x20)
       → Each (λ (field : Filled). Stands (field .first) (field .last) (field .value) (puts rows values texts line)) (fillRows letter rows values texts)
   unfolding fillRows
   all-stand [] from values texts line t one long empty = tt
   all-stand (row ∷ rows) from values texts line t one long empty =
-      let tile = tiles-first from row rows t in
-      let within = row-within from (row ∷ rows) 0 t (omega arith) in
+      let tile = tiles-first 290 from row rows t in
+      let within = row-within 290 from (row ∷ rows) 0 t (omega arith) in
       let field = filled letter row (getD values 0 0) texts in
       let next = put (partOf field) line in
       let values′ = drop 1 values in

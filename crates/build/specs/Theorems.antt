@@ -16,7 +16,8 @@ use Rattle.chars.specs.declared.columns.Allowed.the-variants.{Permitted}
 use Rattle.text.specs.Put.{blanks}
 use Rattle.number.specs.Numbers.{numberIn}
 use Rattle.edits.specs.FieldRow.{firstIn, lastIn, noRow}
-use Rattle.pfml_fields.specs.Tiling.{tiles, tiles-none, tiles-first}
+use Rattle.edits.specs.RowTests.{tiles}
+use Rattle.edits.specs.RowTestLaws.{tiles-none, tiles-first}
 use Rattle.edits.specs.Edit.{Edit, firstBroken, AllFine}
 use Rattle.edits.specs.EditLaws.{fine-all, all-fine, all-append, first-of-list}
 use Rattle.edits.specs.FieldsLabelled.{own-labelled}
@@ -92,13 +93,13 @@ module _ (landmarks : Landmarks) (line : List ℕ) where
       append-all (filledEdits landmarks line field) (editsOfAll landmarks line fields) (rw (here .fits) refl, (here .permitted, here .own-fine)) (each-fine fields (all .1))
 
 -- ---- the whole line
-columns-everywhere : (letter : ℕ) (line : List ℕ) (rows : List (List ℕ)) (from : ℕ) (values texts : List ℕ) → tiles from rows ≡ true
+columns-everywhere : (letter : ℕ) (line : List ℕ) (rows : List (List ℕ)) (from : ℕ) (values texts : List ℕ) → tiles 290 from rows ≡ true
     → Each (λ (field : Filled). everyColumn Permitted line (field .first) (field .last) ≡ fine) (fillRows letter rows values texts)
     → (k : ℕ) → from ≤ k + 1 → k < 290 → allowedTest Permitted line k ≡ fine
 unfolding fillRows
-columns-everywhere letter line [] from values texts t all k low high = absurd (omega (arith, tiles-none from t))
+columns-everywhere letter line [] from values texts t all k low high = absurd (omega (arith, tiles-none 290 from t))
 columns-everywhere letter line (row ∷ rows) from values texts t all k low high =
-    let tile = tiles-first from row rows t in
+    let tile = tiles-first 290 from row rows t in
     by (ltb k (lastIn row)) refl (tile .0) (columns-everywhere letter line rows (lastIn row + 1) _ _ (tile .2) (all .1) k) where
       by : (here : Bool) → ltb k (lastIn row) ≡ here → firstIn row ≡ from → (lastIn row + 1 ≤ k + 1 → k < 290 → allowedTest Permitted line k ≡ fine)
           → allowedTest Permitted line k ≡ fine

@@ -12,7 +12,7 @@ use Rattle.number.specs.Numbers.{numberIn}
 use Rattle.text.specs.Text.{allBlank}
 use Rattle.field.specs.Classes.{classOf}
 use Rattle.field.specs.declared.class.Class.{Class}
-use Rattle.field.specs.declared.class.Class.the-variants.{Ignored, RecordLetter, BlankSpace, Numeric, AccountNumber, Flag, ThirdQuarterFlag, Period, RequiredText, OptionalText, PersonName, EntityCode, StateCode, ZipCode, ZipExtension, TaxYear, EmployerFein, IdentityNumber, CeaseDate}
+use Rattle.field.specs.declared.class.Class.the-variants.{Ignored, RecordLetter, BlankSpace, Numeric, AccountNumber, Flag, ThirdQuarterFlag, Period, RequiredText, OptionalText, PersonName, EntityCode, StateCode, ZipCode, ZipExtension, TaxYear, EmployerFein, IdentityNumber, CeaseDate, More}
 use Rattle.edits.specs.FieldRow.{classIn, firstIn, lastIn}
 use Rattle.pfml.specs.Edits.{rowsFor}
 use Rattle.pfml.specs.Kinds.{kindOf}
@@ -46,6 +46,8 @@ formOf TaxYear = Amount
 formOf EmployerFein = Amount
 formOf IdentityNumber = Amount
 formOf CeaseDate = Amount
+-- No field of PFML is of another format's class.
+formOf (More class) = Blank
 
 -- "An empty account number" is given by the largest number of 64 bits, which no field has room for.
 abbrev pub noAccount : ℕ

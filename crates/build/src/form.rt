@@ -45,5 +45,6 @@ pub fn form_of(class: Class) -> Form
         Class::EmployerFein => Form::Amount,
         Class::IdentityNumber => Form::Amount,
         Class::CeaseDate => Form::Amount,
+        Class::More(_) => Form::Blank,
     }
 }

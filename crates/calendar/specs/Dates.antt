@@ -35,3 +35,7 @@ isDate date = leb 1 (dayOf date) && leb (dayOf date) (daysIn (monthOf date) (yea
 -- "outside A's quarter 49": a quarter is named by its last month, and has the two months before it too.
 unfoldable pub inQuarter : ℕ → Quarter → Bool
 inQuarter date q = eqb (yearOf date) (q .year) && leb (monthOf date) (q .month) && leb (q .month) (monthOf date + 2)
+
+-- The last day of a quarter, which is named by its last month.
+unfoldable pub isLastDay : ℕ → Quarter → Bool
+isLastDay date q = eqb (yearOf date) (q .year) && eqb (monthOf date) (q .month) && eqb (dayOf date) (daysIn (q .month) (q .year))

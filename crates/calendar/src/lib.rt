@@ -1,7 +1,7 @@
 // Quarters and calendar dates as numbers. No line is read here.
 ghost use mathlib.Core.Path.{_≡_};
 ghost use Rattle.calendar.specs.Quarters.{isQuarterMonth, isFilingYear, isAllowed, isAfter, isSame, currentQuarter, timingOf, isReportable};
-ghost use Rattle.calendar.specs.Dates.{isLeap, monthDays, daysIn, monthOf, dayOf, yearOf, isDate, inQuarter};
+ghost use Rattle.calendar.specs.Dates.{isLeap, monthDays, daysIn, monthOf, dayOf, yearOf, isDate, isLastDay, inQuarter};
 
 const FIRST_YEAR: u64 = 2025;
 
@@ -184,6 +184,19 @@ pub fn is_date(date: u64) -> bool
         return false;
     }
     day <= days_in(month_of(date), year_of(date))
+}
+
+// Whether a date MMDDYYYY is the last day of a quarter.
+pub fn is_last_day(date: u64, q: Quarter) -> bool
+    ensures { λ r. ⌜ r ≡ isLastDay date q ⌝ }
+{
+    if year_of(date) != q.year {
+        return false;
+    }
+    if month_of(date) != q.month {
+        return false;
+    }
+    day_of(date) == days_in(q.month, q.year)
 }
 
 // Whether a date MMDDYYYY is of the quarter's year, and its month one of the quarter's three.

@@ -1,3 +1,4 @@
 pub mod Example
 pub mod CaseTables
+pub mod WhamTables
 pub mod Cases

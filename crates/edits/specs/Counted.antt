@@ -1,5 +1,6 @@
--- Definitions: the numbers of the open E and of the file, with some of them set and all others kept.
+-- Definitions: the numbers of the open E and of the file, with some of them set and all others kept; and a context but for its sums.
 use Prim.Native.Nat.{ℕ}
+use Rattle.edits.specs.declared.Context.{Context}
 use Rattle.edits.specs.declared.Open.{Open}
 use Rattle.edits.specs.declared.Totals.{Totals}
 
@@ -30,3 +31,16 @@ openButSums this = openWith this (this .count) 0 0
 
 abbrev pub totalsButSums : Totals → Totals
 totalsButSums all = totalsWith all (all .count) (all .employers) 0 0
+
+-- A context but for what is added up in it.
+abbrev pub withoutSums : Context → Context
+withoutSums here =
+    record {
+      phase = here .phase;
+      held = here .held;
+      filed = here .filed;
+      «open» = openButSums (here .open);
+      all = totalsButSums (here .all);
+      «ids_full» = here .«ids_full»;
+      «list_full» = here .«list_full»;
+    }

@@ -1,7 +1,7 @@
 -- Laws: the field loop finds the first broken edit of the list of all fields' edits.
 use Prim.Native.Nat.{ℕ, zero, suc, _+_, _<_}
 use mathlib.Core.List.{List, [], _∷_, _++_}
-use mathlib.Core.Path.{_≡_, refl, sym, ap, _∙_}
+use mathlib.Core.Path.{_≡_, refl, sym, ap, ap₂, _∙_}
 use native.Mathlib.Nat.{zero-add, not-suc-le-zero, le-of-suc-le-suc}
 use native.Mathlib.Numerals.{add-one}
 use native.Mathlib.Omega.{arith}
@@ -9,13 +9,18 @@ use lib.ListN.{length, getD}
 use Rattle.laws.specs.Finding.{Finding, fine, orElse, firstOf}
 use Rattle.laws.specs.First.{first-same, first-shift}
 use Rattle.field.specs.Classes.{classOf}
+use Rattle.field.specs.ClassLaws.{class-again}
+use Rattle.field.specs.declared.class.Class.{Class}
 use Rattle.edits.specs.Edit.{Edit, firstBroken, AllFine}
 use Rattle.edits.specs.EditLaws.{first-append, all-fine, all-append}
-use Rattle.edits.specs.FieldRow.{noRow}
-use Rattle.edits.specs.RuleNumbers.{Around, ruleOf}
+use Rattle.edits.specs.FieldRow.{row, noRow}
+use Rattle.edits.specs.FieldLaws.{rule-again}
+use Rattle.edits.specs.RuleNumbers.{Around, ruleNumber, ruleOf}
 use Rattle.edits.specs.Tests.{fieldAt, fieldsTest, AllWide}
 use Rattle.edits.specs.FieldEdits.{editsOf, fieldEdits, contextOf, contextEdits}
 use Rattle.edits.specs.Own.{own}
+use Rattle.edits.specs.WithContext.{withContext}
+use Rattle.edits.specs.declared.Rule.{Rule}
 use Rattle.edits.specs.FieldParts.{field-parts}
 
 -- What the edits of field k find.
@@ -84,6 +89,14 @@ field-fine a line (row ∷ rows) (which ∷ rules) all zero h = all-append (edit
 field-fine a line (row ∷ rows) (which ∷ rules) all (suc k) h =
     field-fine a line rows rules (all-append (editsOf a line row which) (fieldEdits a line rows rules) all .1) k (le-of-suc-le-suc h)
 
+-- Of a field of this class and rule, none of its own edits and none of the rule's.
+pub at-row : (a : Around) (text : List ℕ) (rows : List (List ℕ)) (rules : List ℕ) (k : ℕ) (class : Class) (which : Rule) (first last : ℕ)
+    → AllFine (fieldEdits a text rows rules) → k < length rows → getD rows k noRow ≡ row class first last → getD rules k 0 ≡ ruleNumber which
+    → AllFine (own (a .landmarks) (a .code) class text first last) × AllFine (withContext which (a .landmarks) (a .here) (a .seen) text first last)
+at-row a text rows rules k class which first last all h this ruled =
+    all-append (own (a .landmarks) (a .code) class text first last) (withContext which (a .landmarks) (a .here) (a .seen) text first last)
+    (rw (this, ruled, class-again class, rule-again which) at (field-fine a text rows rules all k h))
+
 -- Where no own edit of any field is broken, those with a context are left.
 own-passes : (own-edits context rest left : List Edit) → AllFine own-edits → firstBroken rest ≡ firstBroken left
     → firstBroken ((own-edits ++ context) ++ rest) ≡ firstBroken (context ++ left)
@@ -102,3 +115,14 @@ context-left a line (row ∷ rows) [] own-fine =
 context-left a line (row ∷ rows) (which ∷ rules) own-fine =
     own-passes (own (a .landmarks) (a .code) (classOf (getD row 0 0)) line (getD row 1 0) (getD row 2 0)) (contextOf a line row which) (fieldEdits a line rows rules)
     (contextEdits a line rows rules) (own-fine 0 (omega arith)) (context-left a line rows rules (λ k h. own-fine (suc k) (omega arith)))
+
+-- Where each field's edits are the same in two lines, so are those of all fields.
+pub rows-same : (a b : Around) (u v : List ℕ) (rows : List (List ℕ)) (rules : List ℕ)
+    → ((k : ℕ) → k < length rows → editsOf a u (getD rows k noRow) (getD rules k 0) ≡ editsOf b v (getD rows k noRow) (getD rules k 0))
+    → fieldEdits a u rows rules ≡ fieldEdits b v rows rules
+unfolding fieldEdits
+rows-same a b u v [] rules each = refl
+rows-same a b u v (row ∷ rows) [] each =
+    ap₂ _++_ (each 0 (omega arith)) (rows-same a b u v rows [] (λ k h. each (suc k) (omega arith)))
+rows-same a b u v (row ∷ rows) (which ∷ rules) each =
+    ap₂ _++_ (each 0 (omega arith)) (rows-same a b u v rows rules (λ k h. each (suc k) (omega arith)))

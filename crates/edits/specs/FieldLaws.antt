@@ -11,7 +11,8 @@ use Rattle.edits.specs.FieldRow.{noRow}
 use Rattle.edits.specs.RuleNumbers.{ruleOf, Around, ruleList, ruleNumber}
 use Rattle.edits.specs.Tests.{rulesTest, fieldTest, fieldAt}
 use Rattle.edits.specs.declared.Rule.{Rule}
-use Rattle.edits.specs.declared.Rule.the-variants.{Nothing, YearInTime, QuarterInTime, YearOfA, PeriodOfA, FeinNew, FeinOfE, DateInQuarter, IdentityNew, CountOfS, WagesOfS, FileCountOfS, FileCountOfE, FileWagesOfS, FinalIfCurrent}
+use Rattle.edits.specs.declared.Rule.the-variants.{Nothing, YearInTime, QuarterInTime, YearOfA, PeriodOfA, FeinNew, FeinOfE, DateInQuarter, IdentityNew, CountOfS, WagesOfS, FileCountOfS, FileCountOfE, FileWagesOfS, FinalIfCurrent, More}
+use Rattle.edits.specs.declared.FurtherRule.the-variants.{YearHeld, QuarterOfE, ListRoom, AccountOfE, QuarterEnd, SecondOfS}
 
 -- Field k, by its row and its class.
 module _ (a : Around) (line : List ℕ) (rows : List (List ℕ)) (rules : List ℕ) (k : ℕ) (row : List ℕ) (class : Class)
@@ -47,3 +48,9 @@ rule-again FileCountOfS = refl
 rule-again FileCountOfE = refl
 rule-again FileWagesOfS = refl
 rule-again FinalIfCurrent = refl
+rule-again (More YearHeld) = refl
+rule-again (More QuarterOfE) = refl
+rule-again (More ListRoom) = refl
+rule-again (More AccountOfE) = refl
+rule-again (More QuarterEnd) = refl
+rule-again (More SecondOfS) = refl

@@ -16,10 +16,11 @@ use Rattle.text.specs.TextLaws.{required-parts, optional-parts}
 use Rattle.field.specs.ClassTests.{classTest}
 use Rattle.field.specs.ClassLaws.{class-says}
 use Rattle.field.specs.declared.class.Class.{Class}
-use Rattle.field.specs.declared.class.Class.the-variants.{Ignored, RecordLetter, BlankSpace, Numeric, AccountNumber, Flag, ThirdQuarterFlag, Period, RequiredText, OptionalText, PersonName, EntityCode, StateCode, ZipCode, ZipExtension, TaxYear, EmployerFein, IdentityNumber, CeaseDate}
+use Rattle.field.specs.declared.class.Class.the-variants.{Ignored, RecordLetter, BlankSpace, Numeric, AccountNumber, Flag, ThirdQuarterFlag, Period, RequiredText, OptionalText, PersonName, EntityCode, StateCode, ZipCode, ZipExtension, TaxYear, EmployerFein, IdentityNumber, CeaseDate, More}
 use Rattle.edits.specs.Edit.{firstBroken}
 use Rattle.edits.specs.EditLaws.{or-fine, or-assoc, or-same, first-append}
 use Rattle.edits.specs.Own.{isFinal, ceaseEdits, own}
+use Rattle.edits.specs.FurtherTests.{further-parts}
 use Rattle.edits.specs.WithContext.{withContext}
 use Rattle.edits.specs.RuleNumbers.{Around}
 use Rattle.edits.specs.Tests.{ceaseRules, ceaseIn, ceaseTest, thirdQuarterTest, ownRest, rulesTest, fieldTest, Readable, Wide}
@@ -80,6 +81,7 @@ module _ (landmarks : Landmarks) (code : List ℕ) where
       let date = valueIn line first last in
       rw (class-says, cease-parts landmarks line first last w, or-same)
       (ap (orElse (everyColumn Digits line first last)) (cease-rules (isFinal landmarks line) (eqb date 0) date first refl))
+  own-parts (More class) line first last w = further-parts (landmarks .further) class line first last
 
 -- The field's test finds its first broken edit.
 pub field-parts : (a : Around) (line : List ℕ) (class : Class) (which : Rule) (first last : ℕ) → Wide class first last

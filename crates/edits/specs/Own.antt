@@ -14,8 +14,9 @@ use Rattle.rules.specs.Rules.{periodIn, flagIn, beginsWith69, isNineZeros, mayB
 use Rattle.text.specs.Text.{allBlank, isIndented, entityTest}
 use Rattle.text.specs.Address.{regionIn, stateTest, zipTest, extensionTest}
 use Rattle.field.specs.declared.class.Class.{Class}
-use Rattle.field.specs.declared.class.Class.the-variants.{Ignored, RecordLetter, BlankSpace, Numeric, AccountNumber, Flag, ThirdQuarterFlag, Period, RequiredText, OptionalText, PersonName, EntityCode, StateCode, ZipCode, ZipExtension, TaxYear, EmployerFein, IdentityNumber, CeaseDate}
+use Rattle.field.specs.declared.class.Class.the-variants.{Ignored, RecordLetter, BlankSpace, Numeric, AccountNumber, Flag, ThirdQuarterFlag, Period, RequiredText, OptionalText, PersonName, EntityCode, StateCode, ZipCode, ZipExtension, TaxYear, EmployerFein, IdentityNumber, CeaseDate, More}
 use Rattle.edits.specs.Edit.{Edit, atFirst, rule, eachColumn}
+use Rattle.edits.specs.Further.{furtherOwn}
 use Rattle.edits.specs.declared.Landmarks.{Landmarks}
 
 -- "E flags: 0 or 1 (47)"
@@ -70,3 +71,4 @@ own landmarks code TaxYear line first last = digitsEdit line first last ∷ rule
 own landmarks code EmployerFein line first last = digitsEdit line first last ∷ feinEdits (valueIn line first last) first
 own landmarks code IdentityNumber line first last = digitsEdit line first last ∷ rule 52 first (mayBeFiled (valueIn line first last)) ∷ []
 own landmarks code CeaseDate line first last = digitsEdit line first last ∷ ceaseEdits (isFinal landmarks line) (valueIn line first last) first
+own landmarks code (More class) line first last = furtherOwn (landmarks .further) class line first last

@@ -16,10 +16,11 @@ use Rattle.text.specs.Address.{regionIn, stateTest, zipTest, extensionTest}
 use Rattle.field.specs.Classes.{classOf}
 use Rattle.field.specs.ClassTests.{classTest}
 use Rattle.field.specs.declared.class.Class.{Class}
-use Rattle.field.specs.declared.class.Class.the-variants.{Ignored, RecordLetter, BlankSpace, Numeric, AccountNumber, Flag, ThirdQuarterFlag, Period, RequiredText, OptionalText, PersonName, EntityCode, StateCode, ZipCode, ZipExtension, TaxYear, EmployerFein, IdentityNumber, CeaseDate}
+use Rattle.field.specs.declared.class.Class.the-variants.{Ignored, RecordLetter, BlankSpace, Numeric, AccountNumber, Flag, ThirdQuarterFlag, Period, RequiredText, OptionalText, PersonName, EntityCode, StateCode, ZipCode, ZipExtension, TaxYear, EmployerFein, IdentityNumber, CeaseDate, More}
 use Rattle.edits.specs.Edit.{firstBroken}
 use Rattle.edits.specs.FieldRow.{noRow}
 use Rattle.edits.specs.RuleNumbers.{Around, ruleOf}
+use Rattle.edits.specs.FurtherTests.{furtherRest}
 use Rattle.edits.specs.Own.{isFinal}
 use Rattle.edits.specs.WithContext.{withContext}
 use Rattle.edits.specs.declared.Landmarks.{Landmarks}
@@ -64,6 +65,7 @@ ownRest landmarks code TaxYear line first last = findingIn (yearIn line first la
 ownRest landmarks code EmployerFein line first last = findingIn (feinIn line first last)
 ownRest landmarks code IdentityNumber line first last = findingIn (identityIn line first last)
 ownRest landmarks code CeaseDate line first last = ceaseTest landmarks line first last
+ownRest landmarks code (More class) line first last = furtherRest (landmarks .further) class line first last
 
 -- The rules of a field after its class test: its own, then those of the context.
 unfoldable pub rulesTest : Around → List ℕ → Class → Rule → ℕ → ℕ → Finding
@@ -107,6 +109,7 @@ Wide EntityCode first last = Unit {0}
 Wide StateCode first last = Unit {0}
 Wide ZipCode first last = Unit {0}
 Wide ZipExtension first last = Unit {0}
+Wide (More class) first last = Unit {0}
 
 -- Every row is as wide as its class asks.
 abbrev pub AllWide : List (List ℕ) → Type 0

@@ -10,12 +10,13 @@ use Rattle.calendar.specs.declared.Timing.{Timing}
 use Rattle.number.specs.Numbers.{valueIn}
 use Rattle.edits.specs.Edit.{Edit, rule}
 use Rattle.edits.specs.Formats.{quarterHeld}
+use Rattle.edits.specs.Further.{furtherEdits}
 use Rattle.edits.specs.Own.{isFinal}
 use Rattle.edits.specs.declared.Context.{Context}
 use Rattle.edits.specs.declared.Landmarks.{Landmarks}
 use Rattle.edits.specs.declared.Seen.{Seen}
 use Rattle.edits.specs.declared.Rule.{Rule}
-use Rattle.edits.specs.declared.Rule.the-variants.{Nothing, YearInTime, QuarterInTime, YearOfA, PeriodOfA, FeinNew, FeinOfE, DateInQuarter, IdentityNew, CountOfS, WagesOfS, FileCountOfS, FileCountOfE, FileWagesOfS, FinalIfCurrent}
+use Rattle.edits.specs.declared.Rule.the-variants.{Nothing, YearInTime, QuarterInTime, YearOfA, PeriodOfA, FeinNew, FeinOfE, DateInQuarter, IdentityNew, CountOfS, WagesOfS, FileCountOfS, FileCountOfE, FileWagesOfS, FinalIfCurrent, More}
 
 -- The year and the period of the record.
 abbrev pub quarterOn : Landmarks → List ℕ → Quarter
@@ -72,6 +73,7 @@ ruleEdits FileCountOfS landmarks around seen line first v = rule 58 first (eqb v
 ruleEdits FileCountOfE landmarks around seen line first v = rule 59 first (eqb v (around .all .employers)) ∷ []
 ruleEdits FileWagesOfS landmarks around seen line first v = rule 60 first (eqb v (around .all .sum)) ∷ []
 ruleEdits FinalIfCurrent landmarks around seen line first v = finalIfCurrent (timingOf (quarterHeld (around .held)) (around .filed)) v first
+ruleEdits (More which) landmarks around seen line first v = furtherEdits which (landmarks .further) around line first v
 
 abbrev pub withContext : Rule → Landmarks → Context → Seen → List ℕ → ℕ → ℕ → List Edit
 withContext which landmarks around seen line first last = ruleEdits which landmarks around seen line first (valueIn line first last)

@@ -1,5 +1,6 @@
 // The fields of a record in order: the first broken column of the first broken field.
 use crate::Context;
+use crate::FurtherRule;
 use crate::Landmarks;
 use crate::Rule;
 use crate::Seen;
@@ -42,6 +43,12 @@ pub fn rule_of(number: u8) -> Rule
         held_by::FILE_COUNT_OF_E => Rule::FileCountOfE,
         held_by::FILE_WAGES_OF_S => Rule::FileWagesOfS,
         held_by::FINAL_IF_CURRENT => Rule::FinalIfCurrent,
+        held_by::YEAR_HELD => Rule::More(FurtherRule::YearHeld),
+        held_by::QUARTER_OF_E => Rule::More(FurtherRule::QuarterOfE),
+        held_by::LIST_ROOM => Rule::More(FurtherRule::ListRoom),
+        held_by::ACCOUNT_OF_E => Rule::More(FurtherRule::AccountOfE),
+        held_by::QUARTER_END => Rule::More(FurtherRule::QuarterEnd),
+        held_by::SECOND_OF_S => Rule::More(FurtherRule::SecondOfS),
         _ => Rule::Nothing,
     }
 }

@@ -29,3 +29,15 @@ pub const FILE_COUNT_OF_E: u8 = 12;
 pub const FILE_WAGES_OF_S: u8 = 13;
 
 pub const FINAL_IF_CURRENT: u8 = 14;
+
+pub const YEAR_HELD: u8 = 15;
+
+pub const QUARTER_OF_E: u8 = 16;
+
+pub const LIST_ROOM: u8 = 17;
+
+pub const ACCOUNT_OF_E: u8 = 18;
+
+pub const QUARTER_END: u8 = 19;
+
+pub const SECOND_OF_S: u8 = 20;

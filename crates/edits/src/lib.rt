@@ -1,6 +1,7 @@
 // The edits of the fields of one record, given what they depend on besides the record's own bytes.
 pub mod fields;
 pub mod format;
+pub mod further;
 pub mod held_by;
 pub mod own;
 pub mod rows;
@@ -82,7 +83,35 @@ pub struct Landmarks {
     pub period_last: u16,
     pub state: u16,
     pub final_flag: u16,
+    pub further: FurtherLandmarks,
 }
+
+// The same for rules that PFML has not: the number that asks for a licence; of a difference the
+// whole and the part; and where an account number's second part begins.
+pub struct FurtherLandmarks {
+    pub licensed_first: u16,
+    pub licensed_last: u16,
+    pub whole_first: u16,
+    pub whole_last: u16,
+    pub part_first: u16,
+    pub part_last: u16,
+    pub head_last: u16,
+    pub tail_first: u16,
+    pub tail_last: u16,
+}
+
+// A record that has none of these.
+pub const NONE_FURTHER: FurtherLandmarks = FurtherLandmarks {
+    licensed_first: 0,
+    licensed_last: 0,
+    whole_first: 0,
+    whole_last: 0,
+    part_first: 0,
+    part_last: 0,
+    head_last: 0,
+    tail_first: 0,
+    tail_last: 0,
+};
 
 // The rule by which a field is held against its context.
 pub enum Rule {
@@ -101,4 +130,23 @@ pub enum Rule {
     FileCountOfE,
     FileWagesOfS,
     FinalIfCurrent,
+    // A rule of another format than PFML.
+    More(FurtherRule),
+}
+
+// The rules that PFML has not.
+pub enum FurtherRule {
+    // A's year is not after that of the last closed quarter.
+    YearHeld,
+    // The first E tells the file's quarter, which is not after the last closed one; a later E has
+    // the same.
+    QuarterOfE,
+    // There is room for an employer; a FEIN may stand on several.
+    ListRoom,
+    // The account is the open E's.
+    AccountOfE,
+    // The date is the last day of the file's quarter.
+    QuarterEnd,
+    // The amount is the second sum of the S records under the open E.
+    SecondOfS,
 }

@@ -1,5 +1,6 @@
 // The rules of a field that look at its own record alone, after its class test.
 use crate::Landmarks;
+use crate::further;
 use chars::columns;
 use field::class::Class;
 use number::Number;
@@ -92,5 +93,6 @@ pub fn own_edit(
         Class::EmployerFein => edit_in(rules::read_fein(line, first, last)),
         Class::IdentityNumber => edit_in(rules::read_identity(line, first, last)),
         Class::CeaseDate => cease_edit(landmarks, line, first, last),
+        Class::More(class) => further::own_edit(landmarks.further, class, line, first, last),
     }
 }

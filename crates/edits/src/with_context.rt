@@ -4,6 +4,7 @@ use crate::Landmarks;
 use crate::Rule;
 use crate::Seen;
 use crate::format;
+use crate::further;
 use crate::own;
 use calendar::Quarter;
 use calendar::Timing;
@@ -145,6 +146,7 @@ fn rule_edit(
         Rule::FileCountOfE => columns::unless(v == all.employers, first, Reason::FileCountNotOfE),
         Rule::FileWagesOfS => columns::unless(v == all.sum, first, Reason::FileWagesNotOfS),
         Rule::FinalIfCurrent => final_if_current(calendar::timing_of(held, filed), v, first),
+        Rule::More(rule) => further::rule_edit(rule, landmarks.further, around, line, first, v),
     }
 }
 

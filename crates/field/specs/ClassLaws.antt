@@ -8,7 +8,8 @@ use Rattle.chars.specs.ColumnLaws.{every-says}
 use Rattle.chars.specs.declared.columns.Allowed.{Allowed}
 use Rattle.field.specs.ClassTests.{leadTest, allowedIn, classTest}
 use Rattle.field.specs.declared.class.Class.{Class}
-use Rattle.field.specs.declared.class.Class.the-variants.{Ignored, RecordLetter, BlankSpace, Numeric, AccountNumber, Flag, ThirdQuarterFlag, Period, RequiredText, OptionalText, PersonName, EntityCode, StateCode, ZipCode, ZipExtension, TaxYear, EmployerFein, IdentityNumber, CeaseDate}
+use Rattle.field.specs.declared.class.Class.the-variants.{Ignored, RecordLetter, BlankSpace, Numeric, AccountNumber, Flag, ThirdQuarterFlag, Period, RequiredText, OptionalText, PersonName, EntityCode, StateCode, ZipCode, ZipExtension, TaxYear, EmployerFein, IdentityNumber, CeaseDate, More}
+use Rattle.field.specs.declared.class.Further.the-variants.{SocialSecurity, MaineCode, Licence, Difference}
 use Rattle.field.specs.Classes.{classes, classOf, classNumber}
 
 pub class-says : (class : Class) (line : List ℕ) (first last : ℕ)
@@ -57,3 +58,7 @@ class-again TaxYear = refl
 class-again EmployerFein = refl
 class-again IdentityNumber = refl
 class-again CeaseDate = refl
+class-again (More SocialSecurity) = refl
+class-again (More MaineCode) = refl
+class-again (More Licence) = refl
+class-again (More Difference) = refl

@@ -8,7 +8,9 @@ use Rattle.text.specs.Text.{allBlank, requiredText, optionalText}
 use Rattle.chars.specs.declared.columns.Allowed.{Allowed}
 use Rattle.chars.specs.declared.columns.Allowed.the-variants.{Anything, Blanks, Digits, OfNames}
 use Rattle.field.specs.declared.class.Class.{Class}
-use Rattle.field.specs.declared.class.Class.the-variants.{Ignored, RecordLetter, BlankSpace, Numeric, AccountNumber, Flag, ThirdQuarterFlag, Period, RequiredText, OptionalText, PersonName, EntityCode, StateCode, ZipCode, ZipExtension, TaxYear, EmployerFein, IdentityNumber, CeaseDate}
+use Rattle.field.specs.declared.class.Class.the-variants.{Ignored, RecordLetter, BlankSpace, Numeric, AccountNumber, Flag, ThirdQuarterFlag, Period, RequiredText, OptionalText, PersonName, EntityCode, StateCode, ZipCode, ZipExtension, TaxYear, EmployerFein, IdentityNumber, CeaseDate, More}
+use Rattle.field.specs.declared.class.Further.{Further}
+use Rattle.field.specs.declared.class.Further.the-variants.{SocialSecurity, MaineCode, Licence, Difference}
 
 -- What a field of text says before its columns are looked at. "Class tests 32 and 33 don't apply to [the state] or to ZIP fields", nor to
 -- any but these three classes.
@@ -33,6 +35,14 @@ leadTest TaxYear line first last = fine
 leadTest EmployerFein line first last = fine
 leadTest IdentityNumber line first last = fine
 leadTest CeaseDate line first last = fine
+leadTest (More further) line first last = fine
+
+-- What each column of a field of a class that PFML has not may hold.
+abbrev pub furtherAllowed : Further → Allowed
+furtherAllowed SocialSecurity = Digits
+furtherAllowed MaineCode = Digits
+furtherAllowed Licence = Anything
+furtherAllowed Difference = Anything
 
 -- What each column of a field may hold.
 abbrev pub allowedIn : Class → List ℕ → ℕ → ℕ → Allowed
@@ -61,6 +71,7 @@ allowedIn EntityCode line first last = Anything
 allowedIn StateCode line first last = Anything
 allowedIn ZipCode line first last = Anything
 allowedIn ZipExtension line first last = Anything
+allowedIn (More further) line first last = furtherAllowed further
 
 -- The class test of a field: its text as a whole, then its columns in order.
 unfoldable pub classTest : Class → List ℕ → ℕ → ℕ → Finding

@@ -3,13 +3,16 @@ use Prim.Native.Nat.{ℕ}
 use mathlib.Core.List.{List, [], _∷_}
 use lib.ListN.{getD}
 use Rattle.field.specs.declared.class.Class.{Class}
-use Rattle.field.specs.declared.class.Class.the-variants.{Ignored, RecordLetter, BlankSpace, Numeric, AccountNumber, Flag, ThirdQuarterFlag, Period, RequiredText, OptionalText, PersonName, EntityCode, StateCode, ZipCode, ZipExtension, TaxYear, EmployerFein, IdentityNumber, CeaseDate}
+use Rattle.field.specs.declared.class.Class.the-variants.{Ignored, RecordLetter, BlankSpace, Numeric, AccountNumber, Flag, ThirdQuarterFlag, Period, RequiredText, OptionalText, PersonName, EntityCode, StateCode, ZipCode, ZipExtension, TaxYear, EmployerFein, IdentityNumber, CeaseDate, More}
+use Rattle.field.specs.declared.class.Further.{Further}
+use Rattle.field.specs.declared.class.Further.the-variants.{SocialSecurity, MaineCode, Licence, Difference}
 
 -- A list of fields names a class by its number, counted from 0 in this order. A number past the last names none: such a field is ignored.
 unfoldable pub classes : List Class
 classes =
     Ignored ∷ RecordLetter ∷ BlankSpace ∷ Numeric ∷ AccountNumber ∷ Flag ∷ ThirdQuarterFlag ∷ Period ∷ RequiredText ∷ OptionalText ∷ PersonName ∷
-    EntityCode ∷ StateCode ∷ ZipCode ∷ ZipExtension ∷ TaxYear ∷ EmployerFein ∷ IdentityNumber ∷ CeaseDate ∷ []
+    EntityCode ∷ StateCode ∷ ZipCode ∷ ZipExtension ∷ TaxYear ∷ EmployerFein ∷ IdentityNumber ∷ CeaseDate ∷ More SocialSecurity ∷
+    More MaineCode ∷ More Licence ∷ More Difference ∷ []
 
 unfoldable pub classOf : ℕ → Class
 classOf number = getD classes number Ignored
@@ -34,3 +37,7 @@ classNumber TaxYear = 15
 classNumber EmployerFein = 16
 classNumber IdentityNumber = 17
 classNumber CeaseDate = 18
+classNumber (More SocialSecurity) = 19
+classNumber (More MaineCode) = 20
+classNumber (More Licence) = 21
+classNumber (More Difference) = 22

@@ -6,7 +6,7 @@ ghost use mathlib.Core.Path.{_≡_};
 ghost use Rattle.reason.specs.ReasonNumbers.{findingOf};
 ghost use Rattle.chars.specs.Characters.{capitals};
 ghost use Rattle.field.specs.Classes.{classOf};
-ghost use Rattle.field.specs.ClassTests.{leadTest, allowedIn, classTest};
+ghost use Rattle.field.specs.ClassTests.{leadTest, furtherAllowed, allowedIn, classTest};
 
 // What a field is.
 pub enum Class {
@@ -48,6 +48,20 @@ pub enum Class {
     IdentityNumber,
     // A date, MMDDYYYY.
     CeaseDate,
+    // A class of another format than PFML.
+    More(Further),
+}
+
+// What a field is that PFML has not.
+pub enum Further {
+    // A social security number, which never begins with 9.
+    SocialSecurity,
+    // The numeric code of the state, Maine's.
+    MaineCode,
+    // A licence, required where another field of the record names who has it.
+    Licence,
+    // An amount that may be negative, the difference of two others of the record.
+    Difference,
 }
 
 // The number of each class, by which a list of fields names it.
@@ -89,6 +103,14 @@ pub const IDENTITY_NUMBER: u16 = 17;
 
 pub const CEASE_DATE: u16 = 18;
 
+pub const SOCIAL_SECURITY: u16 = 19;
+
+pub const MAINE_CODE: u16 = 20;
+
+pub const LICENCE: u16 = 21;
+
+pub const DIFFERENCE: u16 = 22;
+
 // The class of a number.
 pub fn class_of(number: u16) -> Class
     ensures { λ r. ⌜ r ≡ classOf number ⌝ }
@@ -113,6 +135,10 @@ pub fn class_of(number: u16) -> Class
         16 => Class::EmployerFein,
         17 => Class::IdentityNumber,
         18 => Class::CeaseDate,
+        19 => Class::More(Further::SocialSecurity),
+        20 => Class::More(Further::MaineCode),
+        21 => Class::More(Further::Licence),
+        22 => Class::More(Further::Difference),
         _ => Class::Ignored,
     }
 }
@@ -141,6 +167,7 @@ pub fn lead_edit(class: Class, line: &[u8], first: u16, last: u16) -> Edit
         Class::EmployerFein => Edit::Passed,
         Class::IdentityNumber => Edit::Passed,
         Class::CeaseDate => Edit::Passed,
+        Class::More(_) => Edit::Passed,
     }
 }
 
@@ -168,6 +195,19 @@ pub fn allowed_in(class: Class, line: &[u8], first: u16, last: u16) -> Allowed
         Class::EmployerFein => Allowed::Digits,
         Class::IdentityNumber => Allowed::Digits,
         Class::CeaseDate => Allowed::Digits,
+        Class::More(further) => further_allowed(further),
+    }
+}
+
+// The same of a class that PFML has not.
+fn further_allowed(further: Further) -> Allowed
+    ensures { λ r. ⌜ r ≡ furtherAllowed further ⌝ }
+{
+    match further {
+        Further::SocialSecurity => Allowed::Digits,
+        Further::MaineCode => Allowed::Digits,
+        Further::Licence => Allowed::Anything,
+        Further::Difference => Allowed::Anything,
     }
 }
 

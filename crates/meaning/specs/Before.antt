@@ -9,7 +9,7 @@ use Rattle.edits.specs.declared.Phase.the-variants.{BeforeA}
 use Rattle.edits.specs.declared.Totals.{Totals}
 use Rattle.shape.specs.After.{phaseAfter, noQuarter, filedAfter, noneOpen, openAfter, entryAtE, idsWith, noTotals, totalsAfter, feinsWith}
 use Rattle.shape.specs.declared.Said.{Said}
-use Rattle.shape.specs.declared.Said.the-variants.{OfA, OfE, OfS, OfT, OfF, OfNone}
+use Rattle.shape.specs.declared.Said.the-variants.{OfA, OfE, OfS, OfT, OfF, OfNote, OfNone}
 use Rattle.tables.specs.Tables.{closedLast}
 use Rattle.tables.specs.declared.Employer.{Employer}
 
@@ -18,7 +18,7 @@ abbrev pub phaseIn : List Said → Phase
 phaseIn [] = BeforeA
 phaseIn (said ∷ p) = phaseAfter said (phaseIn p)
 
--- A's quarter.
+-- The quarter that the file reports.
 abbrev pub filedIn : List Said → Quarter
 filedIn [] = noQuarter
 filedIn (said ∷ p) = filedAfter said (filedIn p)
@@ -33,7 +33,7 @@ abbrev pub idsUnder : List Said → List ℕ
 idsUnder [] = []
 idsUnder (said ∷ p) = idsWith said (idsUnder p)
 
--- The whole file: its S records, its E records, and the amounts of all S records.
+-- The whole file: its S records, its E records, the amounts of all S records, and the notes.
 abbrev pub totalsIn : List Said → Totals
 totalsIn [] = noTotals
 totalsIn (said ∷ p) = totalsAfter said (totalsIn p)
@@ -52,4 +52,5 @@ entriesIn (OfE employer ∷ p) = entriesIn p ++ (entryAtE employer ∷ [])
 entriesIn (OfS employee ∷ p) = entriesIn p
 entriesIn (OfT ∷ p) = closedLast (openIn p .count) (openIn p .sum) (entriesIn p)
 entriesIn (OfF ∷ p) = entriesIn p
+entriesIn (OfNote note ∷ p) = entriesIn p
 entriesIn (OfNone ∷ p) = entriesIn p

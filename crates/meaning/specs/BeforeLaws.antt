@@ -4,7 +4,7 @@ use mathlib.Core.List.{List, [], _∷_, _++_}
 use mathlib.Core.Path.{_≡_, refl, ap, _∙_}
 use lib.ListN.{length, length-append}
 use Rattle.shape.specs.declared.Said.{Said}
-use Rattle.shape.specs.declared.Said.the-variants.{OfA, OfE, OfS, OfT, OfF, OfNone}
+use Rattle.shape.specs.declared.Said.the-variants.{OfA, OfE, OfS, OfT, OfF, OfNote, OfNone}
 use Rattle.tables.specs.Last.{closed-many, closed-feins}
 use Rattle.tables.specs.Laws.{feins-append}
 use Rattle.tables.specs.Tables.{feinsOf}
@@ -17,6 +17,7 @@ entries-many (OfE employer ∷ p) = length-append (entriesIn p) _ ∙ ap (λ (n 
 entries-many (OfS employee ∷ p) = entries-many p
 entries-many (OfT ∷ p) = closed-many _ _ (entriesIn p) ∙ entries-many p
 entries-many (OfF ∷ p) = entries-many p
+entries-many (OfNote note ∷ p) = entries-many p
 entries-many (OfNone ∷ p) = entries-many p
 
 pub entries-feins : (p : List Said) → feinsOf (entriesIn p) ≡ feinsIn p
@@ -26,4 +27,5 @@ entries-feins (OfE employer ∷ p) = feins-append (entriesIn p) _ ∙ ap (λ (l 
 entries-feins (OfS employee ∷ p) = entries-feins p
 entries-feins (OfT ∷ p) = closed-feins _ _ (entriesIn p) ∙ entries-feins p
 entries-feins (OfF ∷ p) = entries-feins p
+entries-feins (OfNote note ∷ p) = entries-feins p
 entries-feins (OfNone ∷ p) = entries-feins p

@@ -1,5 +1,6 @@
 -- Laws: the employers and the totals of an accepted file are those of its records, read forwards.
 use Prim.Native.Nat.{ℕ, _+_}
+use mathlib.Core.Bool.{Bool, true, false, false≢true}
 use mathlib.Core.List.{List, [], _∷_, _++_, map, reverseAux, append-nil}
 use mathlib.Core.Logic.{_⊎_, inl, inr}
 use mathlib.Core.Path.{_≡_, refl, sym, ap, _∙_}
@@ -18,37 +19,40 @@ use Rattle.edits.specs.declared.Totals.{Totals}
 use Rattle.record.specs.Laws.{passed-size, passed-fits}
 use Rattle.shape.specs.Shape.{Judged, refusal, passed}
 use Rattle.record.specs.Judge.{recordOn}
-use Rattle.shape.specs.Fits.{Fits}
+use Rattle.record.specs.ShapeOf.{shapeOf}
+use Rattle.shape.specs.Fits.{EndsE, Fits}
 use Rattle.shape.specs.EndOfInputLaws.{endTest, end-parts}
 use Rattle.shape.specs.declared.EmployeeOn.{EmployeeOn}
 use Rattle.shape.specs.declared.EmployerOn.{EmployerOn}
+use Rattle.shape.specs.declared.Note.{Note}
 use Rattle.shape.specs.declared.Said.{Said}
-use Rattle.shape.specs.declared.Said.the-variants.{OfA, OfE, OfS, OfT, OfF, OfNone}
+use Rattle.shape.specs.declared.Said.the-variants.{OfA, OfE, OfS, OfT, OfF, OfNote, OfNone}
 use Rattle.tables.specs.Last.{closed-behind}
 use Rattle.tables.specs.Room.{Room}
 use Rattle.tables.specs.Tables.{closedLast}
 use Rattle.tables.specs.declared.Employer.{Employer}
-use Rattle.shape.specs.After.{opened, entryAtE, withOne, noTotals, oneEmployer, oneEmployee}
+use Rattle.shape.specs.After.{opened, entryAtE, withOne, noTotals, oneEmployer, oneEmployee, oneOther}
 use Rattle.meaning.specs.Before.{phaseIn, openIn, totalsIn, entriesIn}
 use Rattle.meaning.specs.FileLaws.{records-reversed, meaning-end, meaning-refuses, meaning-goes-on}
-use Rattle.meaning.specs.Forward.{recordsOf, employeesAfter, wagesOf, secondsOf, entryOf, employersOf, employeesOf, totalsOf}
+use Rattle.meaning.specs.Forward.{recordsOf, employeesAfter, wagesOf, secondsOf, entryOf, employersOf, employeesOf, notesOf, totalsOf}
 use Rattle.meaning.specs.Meaning.{contextAt, onEarlierE, underThisE, judgeAt, fileEdits, FileFinding, nothing, found, foundOn, firstOfFile, recordsOnto, accepted, outcomeBy, meaningFrom, meaning}
 use Rattle.meaning.specs.Theorems.{not-refused}
 
 -- ---- each record in its place
--- Where a record of each kind stands.
-abbrev InPlace : Phase → Said → Type 0
-InPlace phase (OfA quarter) = phase ≡ BeforeA
-InPlace phase (OfE employer) = (phase ≡ AfterA) ⊎ (phase ≡ AfterT)
-InPlace phase (OfS employee) = phase ≡ EOpen
-InPlace phase OfT = phase ≡ EOpen
-InPlace phase OfF = phase ≡ AfterT
-InPlace phase OfNone = ⊥
+-- Where a record of each kind stands, and what the open E says of S records.
+abbrev InPlace : Phase → Bool → Said → Type 0
+InPlace phase follow (OfA quarter) = phase ≡ BeforeA
+InPlace phase follow (OfE employer) = (phase ≡ AfterA) ⊎ EndsE phase follow
+InPlace phase follow (OfS employee) = (phase ≡ EOpen) × (follow ≡ true)
+InPlace phase follow OfT = phase ≡ EOpen
+InPlace phase follow OfF = EndsE phase follow
+InPlace phase follow (OfNote note) = phase ≡ EOpen
+InPlace phase follow OfNone = ⊥
 
 -- The records to come, in file order, stand each in its place after those before; F is the last.
 abbrev Placed : List Said → List Said → Type 0
 Placed p [] = phaseIn p ≡ AfterF
-Placed p (said ∷ records) = InPlace (phaseIn p) said × Placed (said ∷ p) records
+Placed p (said ∷ records) = InPlace (phaseIn p) (openIn p .follow) said × Placed (said ∷ p) records
 
 -- The end passes only after F.
 at-end : (phase : Phase) (line : ℕ) (p : List Said) (entries : List Employer) (totals : Totals)
@@ -61,12 +65,13 @@ at-end AfterF line p entries totals e = refl
 
 module _ (room : Room) (held : Opening) where
   -- A record that passes is in its place.
-  in-place : (p : List Said) (said : Said) → Fits (contextAt room held p) said → InPlace (phaseIn p) said
+  in-place : (p : List Said) (said : Said) → Fits (shapeOf (held .format)) (contextAt room held p) said → InPlace (phaseIn p) (openIn p .follow) said
   in-place p (OfA quarter) fits = fits
   in-place p (OfE employer) fits = fits .0
-  in-place p (OfS employee) fits = fits .0
+  in-place p (OfS employee) fits = (fits .0, fits .1)
   in-place p OfT fits = fits
   in-place p OfF fits = fits
+  in-place p (OfNote note) fits = fits .0
   in-place p OfNone fits = fits
 
   -- No line of an accepted file is refused.
@@ -128,34 +133,56 @@ toBeClosed EOpen this entries = closedWith this entries
 toBeClosed AfterT this entries = entries
 toBeClosed AfterF this entries = entries
 
--- Where an E stands no E is open.
-none-open : (phase : Phase) (this : Open) (entries : List Employer) → (phase ≡ AfterA) ⊎ (phase ≡ AfterT) → toBeClosed phase this entries ≡ entries
-none-open phase this entries (inl place) = rw place
-none-open phase this entries (inr place) = rw place
+-- An E that says that no S record follows has none, so that its entry is already as its T would leave it.
+abbrev Quiet : List Said → Type 0
+Quiet p = phaseIn p ≡ EOpen → openIn p .follow ≡ false → closedWith (openIn p) (entriesIn p) ≡ entriesIn p
+
+quiet-after : (p : List Said) (said : Said) → InPlace (phaseIn p) (openIn p .follow) said → Quiet p → Quiet (said ∷ p)
+quiet-after p (OfA quarter) place quiet e f = let z : _≡_ {A = ℕ} 0 1 = cc in absurd (omega arith)
+quiet-after p (OfE employer) place quiet e f = closed-behind 0 0 (entriesIn p) (entryAtE employer)
+quiet-after p (OfS employee) place quiet e f = absurd (false≢true (sym f ∙ place .1))
+quiet-after p OfT place quiet e f = let z : _≡_ {A = ℕ} 0 1 = cc in absurd (omega arith)
+quiet-after p OfF place quiet e f = let z : _≡_ {A = ℕ} 0 1 = cc in absurd (omega arith)
+quiet-after p (OfNote note) place quiet e f = quiet e f
+quiet-after p OfNone place quiet e f = absurd place
+
+-- Where an E has ended nothing is to be closed.
+ended : (p : List Said) → EndsE (phaseIn p) (openIn p .follow) → Quiet p → toBeClosed (phaseIn p) (withAll (openIn p) []) (entriesIn p) ≡ entriesIn p
+ended p (inl after) quiet = rw after
+ended p (inr (place, none)) quiet = rw place (ap (λ (this : Open). closedWith this (entriesIn p)) (with-none-left (openIn p)) ∙ quiet place none)
+
+none-open : (p : List Said) → (phaseIn p ≡ AfterA) ⊎ EndsE (phaseIn p) (openIn p .follow) → Quiet p
+    → toBeClosed (phaseIn p) (withAll (openIn p) []) (entriesIn p) ≡ entriesIn p
+none-open p (inl first) quiet = rw first
+none-open p (inr ends) quiet = ended p ends quiet
 
 abbrev entriesBefore : List Said → List EmployeeOn → List Employer
 entriesBefore p employees = toBeClosed (phaseIn p) (withAll (openIn p) employees) (entriesIn p)
 
 -- The entries at the end: those before, and one for each E to come.
-entries-at-end : (p records : List Said) → Placed p records → entriesIn (reverseAux records p) ≡ entriesBefore p (employeesAfter records) ++ employersOf records
-entries-at-end p [] placed = rw placed (sym (append-nil (entriesIn p)))
-entries-at-end p (OfA quarter ∷ records) placed = rw (placed .0) (entries-at-end (OfA quarter ∷ p) records (placed .1))
-entries-at-end p (OfE employer ∷ records) placed =
+entries-at-end : (p records : List Said) → Quiet p → Placed p records
+    → entriesIn (reverseAux records p) ≡ entriesBefore p (employeesAfter records) ++ employersOf records
+entries-at-end p [] quiet placed = rw placed (sym (append-nil (entriesIn p)))
+entries-at-end p (OfA quarter ∷ records) quiet placed =
+    rw (placed .0) (entries-at-end (OfA quarter ∷ p) records (quiet-after p (OfA quarter) (placed .0) quiet) (placed .1))
+entries-at-end p (OfE employer ∷ records) quiet placed =
     let employees = employeesAfter records in
-    rw (none-open (phaseIn p) (withAll (openIn p) []) (entriesIn p) (placed .0))
-    (entries-at-end (OfE employer ∷ p) records (placed .1)
+    rw (none-open p (placed .0) quiet)
+    (entries-at-end (OfE employer ∷ p) records (quiet-after p (OfE employer) (placed .0) quiet) (placed .1)
     ∙ ap (λ (l : List Employer). l ++ employersOf records) (closed-with-all employer employees (entriesIn p))
     ∙ append-snoc (entriesIn p) (entryOf employer employees) (employersOf records))
-entries-at-end p (OfS employee ∷ records) placed =
-    rw (placed .0)
-    (entries-at-end (OfS employee ∷ p) records (placed .1)
+entries-at-end p (OfS employee ∷ records) quiet placed =
+    rw (placed .0 .0)
+    (entries-at-end (OfS employee ∷ p) records (quiet-after p (OfS employee) (placed .0) quiet) (placed .1)
     ∙ ap (λ (this : Open). closedWith this (entriesIn p) ++ employersOf records) (with-one-more employee (openIn p) (employeesAfter records)))
-entries-at-end p (OfT ∷ records) placed =
+entries-at-end p (OfT ∷ records) quiet placed =
     rw (placed .0)
-    (entries-at-end (OfT ∷ p) records (placed .1)
+    (entries-at-end (OfT ∷ p) records (quiet-after p OfT (placed .0) quiet) (placed .1)
     ∙ ap (λ (this : Open). closedWith this (entriesIn p) ++ employersOf records) (sym (with-none-left (openIn p))))
-entries-at-end p (OfF ∷ records) placed = rw (placed .0) (entries-at-end (OfF ∷ p) records (placed .1))
-entries-at-end p (OfNone ∷ records) placed = absurd (placed .0)
+entries-at-end p (OfF ∷ records) quiet placed =
+    rw (ended p (placed .0) quiet) (entries-at-end (OfF ∷ p) records (quiet-after p OfF (placed .0) quiet) (placed .1))
+entries-at-end p (OfNote note ∷ records) quiet placed = entries-at-end (OfNote note ∷ p) records (quiet-after p (OfNote note) (placed .0) quiet) (placed .1)
+entries-at-end p (OfNone ∷ records) quiet placed = absurd (placed .0)
 
 -- ---- the totals
 -- The totals of the records before and of those to come.
@@ -177,7 +204,7 @@ together-none all = simp add-zero
 none-together : (all : Totals) → together noTotals all ≡ all
 none-together all = simp zero-add
 
--- An E or S record is counted whether it stands before or is to come.
+-- A record that is counted is so whether it stands before or is to come.
 employer-more : (employer : EmployerOn) (all : Totals) (records : List Said)
     → together (oneEmployer all) (totalsOf records) ≡ together all (totalsOf (OfE employer ∷ records))
 employer-more employer all records =
@@ -193,6 +220,11 @@ employee-more employee all records =
     let second : all .second + employee .second + secondsOf employees ≡ all .second + (employee .second + secondsOf employees) = omega arith in
     cc
 
+note-more : (note : Note) (all : Totals) (records : List Said) → together (oneOther all) (totalsOf records) ≡ together all (totalsOf (OfNote note ∷ records))
+note-more note all records =
+    let others : all .others + 1 + length (notesOf records) ≡ all .others + length (notesOf (OfNote note ∷ records)) = omega arith in
+    cc
+
 -- The totals at the end: those before, and those of the records to come.
 totals-at-end : (p records : List Said) → totalsIn (reverseAux records p) ≡ together (totalsIn p) (totalsOf records)
 totals-at-end p [] = sym (together-none (totalsIn p))
@@ -201,6 +233,7 @@ totals-at-end p (OfE employer ∷ records) = totals-at-end (OfE employer ∷ p) 
 totals-at-end p (OfS employee ∷ records) = totals-at-end (OfS employee ∷ p) records ∙ employee-more employee (totalsIn p) records
 totals-at-end p (OfT ∷ records) = totals-at-end (OfT ∷ p) records
 totals-at-end p (OfF ∷ records) = totals-at-end (OfF ∷ p) records
+totals-at-end p (OfNote note ∷ records) = totals-at-end (OfNote note ∷ p) records ∙ note-more note (totalsIn p) records
 totals-at-end p (OfNone ∷ records) = totals-at-end (OfNone ∷ p) records
 
 -- ---- the file
@@ -216,6 +249,6 @@ module _ (room : Room) (held : Opening) (file : List ℕ) (entries : List Employ
   employers-are e =
       let said = says-so (firstOfFile (fileEdits room held file)) (recordsOnto (held .format) [] (linesOf file)) entries totals e in
       let turned = records-reversed (held .format) [] (linesOf file) in (
-        said .0 ∙ ap entriesIn turned ∙ entries-at-end [] (recordsOf (held .format) file) (all-placed room held [] (linesOf file) entries totals e),
+        said .0 ∙ ap entriesIn turned ∙ entries-at-end [] (recordsOf (held .format) file) (λ e f. refl) (all-placed room held [] (linesOf file) entries totals e),
         said .1 ∙ ap totalsIn turned ∙ totals-at-end [] (recordsOf (held .format) file) ∙ none-together (totalsOf (recordsOf (held .format) file)),
       )

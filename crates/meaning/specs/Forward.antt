@@ -8,15 +8,16 @@ use Rattle.record.specs.Judge.{recordOn}
 use Rattle.edits.specs.declared.format.Format.{Format}
 use Rattle.shape.specs.declared.EmployeeOn.{EmployeeOn}
 use Rattle.shape.specs.declared.EmployerOn.{EmployerOn}
+use Rattle.shape.specs.declared.Note.{Note}
 use Rattle.shape.specs.declared.Said.{Said}
-use Rattle.shape.specs.declared.Said.the-variants.{OfA, OfE, OfS, OfT, OfF, OfNone}
+use Rattle.shape.specs.declared.Said.the-variants.{OfA, OfE, OfS, OfT, OfF, OfNote, OfNone}
 use Rattle.tables.specs.declared.Employer.{Employer}
 
 -- The records of a file, in file order.
 abbrev pub recordsOf : Format → List ℕ → List Said
 recordsOf format file = map (recordOn format) (linesOf file)
 
--- "The S records under an E are those after it with no other line between."
+-- "The S records under an E are those after it with no other line between"; in a format that has them a note parts none from its E.
 abbrev pub employeesAfter : List Said → List EmployeeOn
 employeesAfter [] = []
 employeesAfter (OfS employee ∷ records) = employee ∷ employeesAfter records
@@ -24,6 +25,7 @@ employeesAfter (OfA quarter ∷ records) = []
 employeesAfter (OfE employer ∷ records) = []
 employeesAfter (OfT ∷ records) = []
 employeesAfter (OfF ∷ records) = []
+employeesAfter (OfNote note ∷ records) = employeesAfter records
 employeesAfter (OfNone ∷ records) = []
 
 -- "Sums are of whole cents"
@@ -57,6 +59,7 @@ employersOf (OfA quarter ∷ records) = employersOf records
 employersOf (OfS employee ∷ records) = employersOf records
 employersOf (OfT ∷ records) = employersOf records
 employersOf (OfF ∷ records) = employersOf records
+employersOf (OfNote note ∷ records) = employersOf records
 employersOf (OfNone ∷ records) = employersOf records
 
 -- All S records of the file.
@@ -67,7 +70,19 @@ employeesOf (OfA quarter ∷ records) = employeesOf records
 employeesOf (OfE employer ∷ records) = employeesOf records
 employeesOf (OfT ∷ records) = employeesOf records
 employeesOf (OfF ∷ records) = employeesOf records
+employeesOf (OfNote note ∷ records) = employeesOf records
 employeesOf (OfNone ∷ records) = employeesOf records
+
+-- The records under an E that are no S.
+abbrev pub notesOf : List Said → List Note
+notesOf [] = []
+notesOf (OfNote note ∷ records) = note ∷ notesOf records
+notesOf (OfA quarter ∷ records) = notesOf records
+notesOf (OfE employer ∷ records) = notesOf records
+notesOf (OfS employee ∷ records) = notesOf records
+notesOf (OfT ∷ records) = notesOf records
+notesOf (OfF ∷ records) = notesOf records
+notesOf (OfNone ∷ records) = notesOf records
 
 abbrev pub totalsOf : List Said → Totals
 totalsOf records =
@@ -76,6 +91,6 @@ totalsOf records =
       employers = length (employersOf records);
       sum = wagesOf (employeesOf records);
       second = secondsOf (employeesOf records);
-      others = 0;
+      others = length (notesOf records);
       notes = 0;
     }

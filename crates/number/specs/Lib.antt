@@ -3,3 +3,5 @@ pub mod NumberLaws
 pub mod NumberColumnLaws
 pub mod Once
 pub mod AsItStands
+pub mod Letters
+pub mod LetterLaws

@@ -1,4 +1,5 @@
 // A number read from a field, and written into one.
+pub mod letters;
 
 use reason::Reason;
 ghost use mathlib.Core.Path.{_≡_};

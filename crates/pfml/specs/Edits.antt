@@ -2,14 +2,14 @@
 use Prim.Native.Nat.{ℕ}
 use mathlib.Core.List.{List, [], _∷_, _++_}
 use Rattle.laws.specs.Spelling.{bytes}
-use Rattle.chars.specs.declared.columns.Allowed.the-variants.{Permitted}
 use Rattle.pfml_fields.specs.Fields.{fieldsOfA, fieldsOfE, fieldsOfS, fieldsOfT, fieldsOfF}
 use Rattle.pfml_fields.specs.FieldRules.{rulesOfA, rulesOfE, rulesOfS, rulesOfT, rulesOfF}
-use Rattle.edits.specs.Edit.{Edit, rule, eachColumn}
+use Rattle.edits.specs.Edit.{Edit}
 use Rattle.edits.specs.RuleNumbers.{Around}
 use Rattle.edits.specs.FieldEdits.{fieldEdits}
 use Rattle.edits.specs.declared.Context.{Context}
 use Rattle.edits.specs.declared.Seen.{Seen}
+use Rattle.shape.specs.Head.{headOf}
 use Rattle.pfml.specs.Kinds.{kindOn, landmarksOf, isKnown}
 use Rattle.pfml.specs.Place.{placeEdits, countEdit}
 use Rattle.pfml.specs.declared.kind.Kind.{Kind}
@@ -42,7 +42,7 @@ placedEdits here kind = placeEdits (here .phase) (here .open .follow) kind ++ (c
 
 -- "characters, letter, place"
 abbrev pub headEdits : Context → List ℕ → Kind → List Edit
-headEdits here text kind = eachColumn 3 Permitted text 1 290 ∷ rule 4 1 (isKnown kind) ∷ placedEdits here kind
+headEdits here text kind = headOf 290 (isKnown kind) (placedEdits here kind) text
 
 -- "characters, letter, place, then fields by first column": of a record of this kind
 abbrev pub textEdits : Context → Seen → List ℕ → Kind → List Edit

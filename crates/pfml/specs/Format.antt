@@ -24,6 +24,7 @@ pfmlShape =
       -- 72
       mostLines = mostLines;
       mostCents = mostCents;
+      mostOthers = 0;
       unfitMore = λ ids used isOpen all this. idsUnfit ids used isOpen;
       quarterUnfit = quarterUnfit;
       isLeft = isLeft;

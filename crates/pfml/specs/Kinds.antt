@@ -5,6 +5,7 @@ use mathlib.Core.List.{List}
 use lib.Dec.{eqb}
 use lib.ListN.{getD}
 use Rattle.laws.specs.Choice.{if_then_else_}
+use Rattle.edits.specs.Further.{noneFurther}
 use Rattle.edits.specs.declared.Landmarks.{Landmarks}
 use Rattle.edits.specs.FieldRow.{firstIn, lastIn}
 use Rattle.pfml_fields.specs.Fields.{yearOfA, periodOfA, stateOfA, yearOfE, periodOfE, stateOfE, finalOfE}
@@ -36,7 +37,7 @@ placeInOrder Unknown = 5
 
 -- A record that has no such field.
 abbrev pub noLandmarks : Landmarks
-noLandmarks = record { «year_first» = 0; «year_last» = 0; «period_first» = 0; «period_last» = 0; state = 0; «final_flag» = 0 }
+noLandmarks = record { «year_first» = 0; «year_last» = 0; «period_first» = 0; «period_last» = 0; state = 0; «final_flag» = 0; further = noneFurther }
 
 -- The columns that the rules of other fields look at: year and period for the period test, the state for ZIP and extension, E's period
 -- for 191, E's 282 for the cease date.
@@ -49,6 +50,7 @@ landmarksOf Transmitter =
       «period_last» = lastIn periodOfA;
       state = firstIn stateOfA;
       «final_flag» = 0;
+      further = noneFurther;
     }
 landmarksOf Employer =
     record {
@@ -58,6 +60,7 @@ landmarksOf Employer =
       «period_last» = lastIn periodOfE;
       state = firstIn stateOfE;
       «final_flag» = firstIn finalOfE;
+      further = noneFurther;
     }
 landmarksOf Employee = noLandmarks
 landmarksOf Total = noLandmarks

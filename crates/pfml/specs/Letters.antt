@@ -12,7 +12,7 @@ use Rattle.lines.specs.Lines.{Line}
 use Rattle.chars.specs.CharacterLaws.{capital-at, capital-is}
 use Rattle.shape.specs.Hidden.{ofEmployee, isEmployee}
 use Rattle.shape.specs.declared.Said.{Said}
-use Rattle.shape.specs.declared.Said.the-variants.{OfA, OfE, OfS, OfT, OfF, OfNone}
+use Rattle.shape.specs.declared.Said.the-variants.{OfA, OfE, OfS, OfT, OfF, OfNote, OfNone}
 use Rattle.pfml.specs.Format.{pfmlShape}
 use Rattle.pfml.specs.Kinds.{kindOf, kindOn}
 use Rattle.pfml.specs.Says.{saidBy, says}
@@ -73,13 +73,14 @@ kind-of-F = refl
 pub letter-of : (letter : ℕ) (kind : Kind) → Named kind → kindOf letter ≡ kind → letter ≡ letterOf kind
 letter-of letter kind named e = letter-again letter (rw e named) ∙ ap letterOf e
 
--- ---- what the record says
+-- ---- what the record says; none is a note
 abbrev pub kindIn : Said → Kind
 kindIn (OfA quarter) = Transmitter
 kindIn (OfE employer) = Employer
 kindIn (OfS employee) = Employee
 kindIn OfT = Total
 kindIn OfF = Final
+kindIn (OfNote note) = Unknown
 kindIn OfNone = Unknown
 
 said-kind : (kind : Kind) (text : List ℕ) → kindIn (saidBy kind text) ≡ kind

@@ -1,16 +1,16 @@
 -- Laws: no edit is missing: the numbers of each record's edits are, in order, exactly those of the table in ListedNumbers, and their first columns
 -- never fall. (These are the edits' labels; that what an edit finds is told by its label is `text-labelled`.)
 use Prim.Native.Nat.{ℕ}
-use mathlib.Core.Bool.{Bool, true, _&&_}
+use mathlib.Core.Bool.{true}
 use mathlib.Core.List.{List, [], _∷_, _++_, map, map-append}
 use mathlib.Core.Path.{_≡_, refl, ap, _∙_}
-use lib.Dec.{leb}
 use Rattle.lines.specs.Lines.{Line}
 use Rattle.chars.specs.Characters.{capitals}
 use Rattle.field.specs.ClassLaws.{class-again}
 use Rattle.field.specs.declared.class.Class.the-variants.{RecordLetter, BlankSpace, Numeric, AccountNumber, Flag, ThirdQuarterFlag, Period, RequiredText, OptionalText, PersonName, EntityCode, StateCode, ZipCode, ZipExtension, TaxYear, EmployerFein, IdentityNumber, CeaseDate}
 use Rattle.pfml_fields.specs.Fields.{fieldsOfA, fieldsOfE, fieldsOfS, fieldsOfT, fieldsOfF}
 use Rattle.edits.specs.Edit.{Edit}
+use Rattle.edits.specs.Numbering.{numbersOf, neverFalls}
 use Rattle.edits.specs.RuleNumbers.{Around}
 use Rattle.edits.specs.FieldLaws.{rule-again}
 use Rattle.edits.specs.FieldEdits.{fieldEdits}
@@ -19,7 +19,7 @@ use Rattle.edits.specs.declared.Context.{Context}
 use Rattle.edits.specs.declared.Seen.{Seen}
 use Rattle.edits.specs.declared.Rule.the-variants.{Nothing, YearInTime, QuarterInTime, YearOfA, PeriodOfA, FeinNew, FeinOfE, DateInQuarter, IdentityNew, CountOfS, WagesOfS, FileCountOfS, FileCountOfE, FileWagesOfS, FinalIfCurrent}
 use Rattle.pfml.specs.Kinds.{kindOn}
-use Rattle.pfml.specs.ListedNumbers.{numbersOf, neverFalls, numbersOfA, numbersOfE, numbersOfS, numbersOfT, numbersOfF, numbersFor, numbersOfHead, numbersOfText, numbersOfLine}
+use Rattle.pfml.specs.ListedNumbers.{numbersOfA, numbersOfE, numbersOfS, numbersOfT, numbersOfF, numbersFor, numbersOfHead, numbersOfText, numbersOfLine}
 use Rattle.pfml.specs.Edits.{rowsFor, around, headEdits, textEdits, rulesFor}
 use Rattle.pfml.specs.Format.{pfmlShape}
 use Rattle.shape.specs.Shape.{lineEditsBy}

@@ -1,21 +1,9 @@
 -- Definitions: the numbers of each record's edits in order, a small table copied from the paper, with 64 and 65 of document 02, "right after 44 and before 45"
--- and "after 47 there"; and that the first columns of edits never fall.
+-- and "after 47 there".
 use Prim.Native.Nat.{ℕ}
-use mathlib.Core.Bool.{Bool, true, _&&_}
-use mathlib.Core.List.{List, [], _∷_, _++_, map}
-use lib.Dec.{leb}
-use Rattle.edits.specs.Edit.{Edit}
+use mathlib.Core.List.{List, [], _∷_, _++_}
 use Rattle.pfml.specs.declared.kind.Kind.{Kind}
 use Rattle.pfml.specs.declared.kind.Kind.the-variants.{Transmitter, Employer, Employee, Total, Final, Unknown}
-
-abbrev pub numbersOf : List Edit → List ℕ
-numbersOf edits = map (λ (edit : Edit). edit .number) edits
-
--- "then fields by first column"
-abbrev pub neverFalls : List Edit → Bool
-neverFalls [] = true
-neverFalls (edit ∷ []) = true
-neverFalls (edit ∷ next ∷ edits) = leb (edit .first) (next .first) && neverFalls (next ∷ edits)
 
 -- The table, in the paper's numbers: a line for each field, the record's letter left out.
 -- A

@@ -9,6 +9,7 @@ use lib.Dec.{eqb, leb, ltb}
 use lib.ListN.{length, getD}
 use borrow.Author.Tests.{eqb-true, eqb-false, leb-false, ltb-false, le-ltb}
 use Rattle.laws.specs.Choice.{if_then_else_}
+use Rattle.laws.specs.ChoiceLaws.{not-holds}
 use Rattle.laws.specs.Finding.{fine}
 use Rattle.calendar.specs.Quarters.{isReportable}
 use Rattle.calendar.specs.Laws.{reportable}
@@ -16,30 +17,23 @@ use Rattle.chars.specs.ColumnLaws.{unless-fine}
 use Rattle.number.specs.Numbers.{valueIn}
 use Rattle.number.specs.NumberLaws.{value-below}
 use Rattle.rules.specs.RuleLaws.{period-fine}
-use Rattle.field.specs.ClassLaws.{class-again}
-use Rattle.field.specs.declared.class.Class.{Class}
 use Rattle.field.specs.declared.class.Class.the-variants.{Period, TaxYear, EmployerFein, IdentityNumber}
-use Rattle.edits.specs.FieldRow.{row, noRow}
 use Rattle.pfml_fields.specs.Fields.{fieldsOfA, fieldsOfE, fieldsOfS}
 use Rattle.pfml_fields.specs.Rows.{year-of-A, period-of-A, fein-of-E, identity-of-S, fields-of-A, fields-of-E, fields-of-S}
 use Rattle.pfml_fields.specs.FieldRules.{rulesOfA, rulesOfE, rulesOfS}
 use Rattle.edits.specs.EditLaws.{all-fine, all-append, not-broken}
 use Rattle.edits.specs.Edit.{AllFine}
-use Rattle.edits.specs.RuleNumbers.{Around, ruleNumber}
-use Rattle.edits.specs.FieldLaws.{rule-again}
+use Rattle.edits.specs.RuleNumbers.{ruleNumber}
 use Rattle.edits.specs.Formats.{quarterHeld}
-use Rattle.edits.specs.FieldEditLaws.{field-fine}
+use Rattle.edits.specs.FieldEditLaws.{at-row}
 use Rattle.edits.specs.FieldEdits.{fieldEdits}
-use Rattle.edits.specs.Own.{own}
-use Rattle.edits.specs.WithContext.{withContext}
 use Rattle.edits.specs.declared.Context.{Context}
 use Rattle.edits.specs.declared.Phase.{Phase}
 use Rattle.edits.specs.declared.Phase.the-variants.{BeforeA, AfterA, EOpen, AfterT, AfterF}
-use Rattle.edits.specs.declared.Rule.{Rule}
 use Rattle.edits.specs.declared.Rule.the-variants.{YearInTime, QuarterInTime, FeinNew, IdentityNew}
 use Rattle.edits.specs.declared.Seen.{Seen}
 use Rattle.shape.specs.After.{phaseAfter, filedAfter, usedAfter}
-use Rattle.shape.specs.Fits.{Fits, Bounded}
+use Rattle.shape.specs.Fits.{EndsE, Fits, Bounded}
 use Rattle.shape.specs.Limits.{mostEmployees}
 use Rattle.shape.specs.Phases.{stands}
 use Rattle.pfml.specs.Edits.{rowsFor, rulesFor, around, headEdits, textEdits}
@@ -75,6 +69,11 @@ place-of-E EOpen follow e = absurd (not-broken _ _ (sym e))
 place-of-E AfterT follow e = inr refl
 place-of-E AfterF follow e = absurd (not-broken _ _ (sym e))
 
+-- An E has ended with its T, whatever it says.
+by-its-T : (phase : Phase) (follow : Bool) → (phase ≡ AfterA) ⊎ (phase ≡ AfterT) → (phase ≡ AfterA) ⊎ EndsE phase follow
+by-its-T phase follow (inl a) = inl a
+by-its-T phase follow (inr t) = inr (inl t)
+
 place-of-S : (phase : Phase) (follow : Bool) → placeTest phase follow Employee ≡ fine → (phase ≡ EOpen) × (follow ≡ true)
 place-of-S BeforeA follow e = absurd (not-broken _ _ (sym e))
 place-of-S AfterA follow e = absurd (not-broken _ _ (sym e))
@@ -98,14 +97,6 @@ place-of-F AfterT follow e = refl
 place-of-F AfterF follow e = absurd (not-broken _ _ (sym e))
 
 -- ---- the fields
--- A field of this class and rule breaks none of its own edits and none of the rule's.
-at-row : (a : Around) (text : List ℕ) (rows : List (List ℕ)) (rules : List ℕ) (k : ℕ) (class : Class) (which : Rule) (first last : ℕ)
-    → AllFine (fieldEdits a text rows rules) → k < length rows → getD rows k noRow ≡ row class first last → getD rules k 0 ≡ ruleNumber which
-    → AllFine (own (a .landmarks) (a .code) class text first last) × AllFine (withContext which (a .landmarks) (a .here) (a .seen) text first last)
-at-row a text rows rules k class which first last all h this ruled =
-    all-append (own (a .landmarks) (a .code) class text first last) (withContext which (a .landmarks) (a .here) (a .seen) text first last)
-    (rw (this, ruled, class-again class, rule-again which) at (field-fine a text rows rules all k h))
-
 year-rule : getD rulesOfA 1 0 ≡ ruleNumber YearInTime
 unfolding rulesOfA
 year-rule = refl
@@ -122,14 +113,10 @@ identity-rule : getD rulesOfS 1 0 ≡ ruleNumber IdentityNew
 unfolding rulesOfS
 identity-rule = refl
 
-not-true : (t : Bool) → not t ≡ true → t ≡ false
-not-true true e = absurd (false≢true e)
-not-true false e = refl
-
 -- An identity number is that of an applicant, or there is room for it.
 none-or : (none full : Bool) → none || not full ≡ true → (none ≡ true) ⊎ (full ≡ false)
 none-or true full e = inl refl
-none-or false full e = inr (not-true full e)
+none-or false full e = inr (not-holds full e)
 
 -- One id more, where there is room for it.
 one-more : (ids used id : ℕ) (none : Bool) → eqb id 0 ≡ none → used ≤ ids → (id ≡ 0) ⊎ (leb ids used ≡ false) → ltb ids (if none then used else used + 1) ≡ false
@@ -155,7 +142,7 @@ module _ (here : Context) (seen : Seen) (text : List ℕ) where
   room-for-E all =
       let a = around here seen Employer in
       let fein = at-row a text fieldsOfE rulesOfE 2 EmployerFein FeinNew 6 14 all (rw fields-of-E (omega arith)) fein-of-E fein-rule in
-      not-true _ (unless-fine _ 6 63 (fein .1 .1 .0))
+      not-holds _ (unless-fine _ 6 63 (fein .1 .1 .0))
 
   room-for-S : AllFine (fieldEdits (around here seen Employee) text fieldsOfS rulesOfS) → (valueIn text 2 10 ≡ 0) ⊎ (here .«ids_full» ≡ false)
   room-for-S all =
@@ -178,31 +165,35 @@ module _ (here : Context) (seen : Seen) where
       let placed = all-append place (countEdit kind (here .all .count) ∷ []) (parts .0 .1 .1) in
       (sym (place-parts (here .phase) (here .open .follow) kind) ∙ all-fine place (placed .0), placed .1 .0, parts .1)
 
-  pub fits-by : (kind : Kind) (text : List ℕ) → AllFine (textEdits here seen text kind) → Fits here (saidBy kind text)
+  pub fits-by : (kind : Kind) (text : List ℕ) → AllFine (textEdits here seen text kind) → Fits pfmlShape here (saidBy kind text)
   fits-by Transmitter text all = place-of-A (here .phase) (here .open .follow) (split text Transmitter all .0)
   fits-by Employer text all =
       let part = split text Employer all in
-      (place-of-E (here .phase) (here .open .follow) (part .0), room-for-E here seen text (part .2))
+      (by-its-T _ _ (place-of-E (here .phase) (here .open .follow) (part .0)), room-for-E here seen text (part .2))
   fits-by Employee text all =
       let part = split text Employee all in
       let place = place-of-S (here .phase) (here .open .follow) (part .0) in
-      let count = leb-false mostEmployees (here .all .count) (not-true _ (unless-fine _ 1 61 (part .1))) in
+      let count = leb-false mostEmployees (here .all .count) (not-holds _ (unless-fine _ 1 61 (part .1))) in
       (place .0, place .1, count, room-for-S here seen text (part .2))
   fits-by Total text all = place-of-T (here .phase) (here .open .follow) (split text Total all .0)
-  fits-by Final text all = place-of-F (here .phase) (here .open .follow) (split text Final all .0)
+  fits-by Final text all = inl (place-of-F (here .phase) (here .open .follow) (split text Final all .0))
   fits-by Unknown text all = absurd (false≢true (unless-fine false 1 4 (all .1 .0)))
+
+  -- F stands after a T.
+  pub final-place : (text : List ℕ) → AllFine (textEdits here seen text Final) → here .phase ≡ AfterT
+  final-place text all = place-of-F (here .phase) (here .open .follow) (split text Final all .0)
 
   -- ---- 72: the quarter, and the ids in use, after a record that passes
   pub quarter-by : (kind : Kind) (text : List ℕ) → AllFine (textEdits here seen text kind) → quarterUnfit (here .phase) (here .held) (here .filed) ≡ false
       → quarterUnfit (phaseAfter (saidBy kind text) (here .phase)) (here .held) (filedAfter (saidBy kind text) (here .filed)) ≡ false
   quarter-by Transmitter text all e = rw (quarter-in-time here seen text (split text Transmitter all .2))
-  quarter-by Employer text all e = elim (fits-by Employer text all .0) [
+  quarter-by Employer text all e = elim (place-of-E (here .phase) (here .open .follow) (split text Employer all .0)) [
     | inl a ↦ rw a at e
     | inr t ↦ rw t at e
   ]
   quarter-by Employee text all e = rw (fits-by Employee text all .0) at e
   quarter-by Total text all e = rw (fits-by Total text all) at e
-  quarter-by Final text all e = rw (fits-by Final text all) at e
+  quarter-by Final text all e = rw (place-of-F (here .phase) (here .open .follow) (split text Final all .0)) at e
   quarter-by Unknown text all e = e
 
   pub ids-by : (kind : Kind) (text : List ℕ) (ids used : ℕ) → here .«ids_full» ≡ leb ids used → AllFine (textEdits here seen text kind)

@@ -16,6 +16,8 @@ use Rattle.edits.specs.declared.Totals.{Totals}
 use Rattle.shape.specs.Fits.{SecondFits}
 use Rattle.shape.specs.Hidden.{ofEmployee, employeeIn}
 use Rattle.shape.specs.Lawful.{Lawful}
+use Rattle.shape.specs.declared.Note.{Note}
+use Rattle.shape.specs.declared.Said.the-variants.{OfNote}
 use Rattle.pfml.specs.EmployeesAlike.{twins-alike}
 use Rattle.pfml.specs.Employees.{isPersonal}
 use Rattle.pfml.specs.Fitness.{idsUnfit}
@@ -68,6 +70,15 @@ adds-none Total text all this = tt
 adds-none Final text all this = tt
 adds-none Unknown text all this = tt
 
+-- ---- no record is a note
+never-note : (kind : Kind) (text : List ℕ) (note : Note) → saidBy kind text ≡ OfNote note → ⊥
+never-note Transmitter text note e = let z : _≡_ {A = ℕ} 0 1 = cc in omega arith
+never-note Employer text note e = let z : _≡_ {A = ℕ} 0 1 = cc in omega arith
+never-note Employee text note e = let z : _≡_ {A = ℕ} 0 1 = cc in omega arith
+never-note Total text note e = let z : _≡_ {A = ℕ} 0 1 = cc in omega arith
+never-note Final text note e = let z : _≡_ {A = ℕ} 0 1 = cc in omega arith
+never-note Unknown text note e = let z : _≡_ {A = ℕ} 0 1 = cc in omega arith
+
 -- ---- a call that is lent no table
 unlent : (ids used : ℕ) (isOpen : Bool) → idsUnfit used used isOpen ≡ false
 unlent ids used true = le-ltb used used (omega arith)
@@ -111,6 +122,7 @@ pfml-lawful =
       more-unlent = λ ids used isOpen all this e. unlent ids used isOpen;
       second-fits = λ ids used all this text many under e. adds-none (kindOn text) text all this;
       hidden-alike = twins-alike;
+      note-alike = λ here here' seen text note e same. absurd (never-note (kindOn text) text note e);
       hides-within = λ text column e. personal-high column e;
       front-shown = λ text column h. front-shown column h;
       front-tells = λ u v same. (front-tells u v same, λ column. refl);

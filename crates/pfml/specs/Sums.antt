@@ -35,7 +35,7 @@ use Rattle.pfml.specs.Edits.{rowsFor, around, placedEdits, headEdits, te
 use Rattle.pfml.specs.Says.{saidBy}
 use Rattle.shape.specs.Shape.{passed, judgeBy}
 use Rattle.pfml.specs.Format.{pfmlShape}
-use Rattle.pfml.specs.TextParts.{head-passes}
+use Rattle.shape.specs.HeadLaws.{head-passes}
 use Rattle.pfml.specs.Place.{placeEdits, countEdit}
 use Rattle.pfml.specs.PlaceTables.{placeTest, place-parts}
 use Rattle.pfml_fields.specs.FieldRules.{rulesOfT, rulesOfF}
@@ -109,14 +109,17 @@ module _ (here : Context) (seen : Seen) (line : Line) (text : List ℕ) (read : 
       → AllFine edits → judgeBy pfmlShape here seen line ≡ passed taken (saidBy kind text)
   passes cut permitted known place fields =
       let head : firstBroken (headEdits here text kind) ≡ fine = first-cons _ _ ∙ rw (permitted, first-cons, known) place in
-      let all : firstBroken (textEdits here seen text kind) ≡ fine = head-passes here seen text kind head ∙ all-fine edits fields in
+      let all : firstBroken (textEdits here seen text kind) ≡ fine = head-passes (headEdits here text kind) edits head ∙ all-fine edits fields in
       cut-takes pfmlShape here seen line taken cut ∙ rw (read, named, all)
 
-  -- and the other way, where it passes it has 290 characters, and no edit of its fields is broken.
+  -- and the other way, where it passes none of its edits is broken;
+  pub passed-text : (said : Said) → judgeBy pfmlShape here seen line ≡ passed taken said → AllFine (textEdits here seen text kind)
+  passed-text said e = rw (read, named) at (accepted-iff pfmlShape here seen line .1 taken said e .1 .1)
+
+  -- it has 290 characters, and no edit of its fields is broken.
   pub passed-fields : (said : Said) → judgeBy pfmlShape here seen line ≡ passed taken said → (length (line .text) ≡ 290) × AllFine edits
   passed-fields said e = at (cutting 290 line) refl where
     at : (r : Reading) → cutting 290 line ≡ r → (length (line .text) ≡ 290) × AllFine edits
     at (refused column number) c = absurd (not-passed column number taken said (sym (cut-refuses pfmlShape here seen line column number c) ∙ e))
     at (value bytes) c =
-        let all = accepted-iff pfmlShape here seen line .1 taken said e .1 .1 in
-        (taken-is-size 290 bytes line c .0, all-append (headEdits here text kind) edits (rw (read, named) at all) .1)
+        (taken-is-size 290 bytes line c .0, all-append (headEdits here text kind) edits (passed-text said e) .1)

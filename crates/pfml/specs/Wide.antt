@@ -12,40 +12,17 @@ use borrow.Author.Tests.{eqb-true}
 use Rattle.laws.specs.Lists.{any-default}
 use Rattle.field.specs.Classes.{classOf}
 use Rattle.field.specs.declared.class.Class.{Class}
-use Rattle.field.specs.declared.class.Class.the-variants.{Ignored, RecordLetter, BlankSpace, Numeric, AccountNumber, Flag, ThirdQuarterFlag, Period, RequiredText, OptionalText, PersonName, EntityCode, StateCode, ZipCode, ZipExtension, TaxYear, EmployerFein, IdentityNumber, CeaseDate}
+use Rattle.field.specs.declared.class.Class.the-variants.{Ignored, RecordLetter, BlankSpace, Numeric, AccountNumber, Flag, ThirdQuarterFlag, Period, RequiredText, OptionalText, PersonName, EntityCode, StateCode, ZipCode, ZipExtension, TaxYear, EmployerFein, IdentityNumber, CeaseDate, More}
 use Rattle.edits.specs.FieldRow.{classIn, firstIn, lastIn}
 use Rattle.pfml_fields.specs.Fields.{fields}
-use Rattle.pfml_fields.specs.Fit.{widthTest, class-widths}
+use Rattle.edits.specs.RowTestLaws.{wide-of}
+use Rattle.pfml_fields.specs.Fit.{class-widths}
 use Rattle.pfml_fields.specs.Rows.{all-fields, part-of-A, part-of-E, part-of-S, part-of-T, part-of-F}
 use Rattle.edits.specs.FieldRow.{noRow}
 use Rattle.edits.specs.Tests.{Wide, Readable, AllWide}
 use Rattle.pfml.specs.Edits.{rowsFor}
 use Rattle.pfml.specs.declared.kind.Kind.{Kind}
 use Rattle.pfml.specs.declared.kind.Kind.the-variants.{Transmitter, Employer, Employee, Total, Final, Unknown}
-
-readable : (w first last : ℕ) → w ≤ 18 → eqb (last - (first - 1)) (suc w) ≡ true → Readable first last
-readable w first last small e = let width = eqb-true (last - (first - 1)) (suc w) e in (omega arith, omega arith)
-
-wide-of : (class : Class) (first last : ℕ) → widthTest class (last - (first - 1)) ≡ true → Wide class first last
-wide-of Ignored first last e = tt
-wide-of RecordLetter first last e = tt
-wide-of BlankSpace first last e = tt
-wide-of Numeric first last e = tt
-wide-of AccountNumber first last e = tt
-wide-of Flag first last e = tt
-wide-of ThirdQuarterFlag first last e = tt
-wide-of Period first last e = tt
-wide-of RequiredText first last e = tt
-wide-of OptionalText first last e = tt
-wide-of PersonName first last e = tt
-wide-of EntityCode first last e = tt
-wide-of StateCode first last e = tt
-wide-of ZipCode first last e = tt
-wide-of ZipExtension first last e = tt
-wide-of TaxYear first last e = readable 3 first last (omega arith) e
-wide-of EmployerFein first last e = readable 8 first last (omega arith) e
-wide-of IdentityNumber first last e = readable 8 first last (omega arith) e
-wide-of CeaseDate first last e = readable 7 first last (omega arith) e
 
 part-wide : (from n : ℕ) → from + n ≤ 72 → AllWide (take n (drop from fields))
 part-wide from n fits k h =

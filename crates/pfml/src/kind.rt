@@ -1,5 +1,6 @@
 // The five records, by their letters.
 use edits::Landmarks;
+use edits::NONE_FURTHER;
 use pfml_fields::FINAL_OF_E;
 use pfml_fields::PERIOD_OF_A;
 use pfml_fields::PERIOD_OF_E;
@@ -8,7 +9,7 @@ use pfml_fields::STATE_OF_E;
 use pfml_fields::YEAR_OF_A;
 use pfml_fields::YEAR_OF_E;
 ghost use mathlib.Core.Path.{_≡_};
-ghost use Rattle.pfml.specs.Kinds.{kindOf, placeInOrder, noLandmarks, landmarksOf};
+ghost use Rattle.pfml.specs.Kinds.{kindOf, isKnown, placeInOrder, noLandmarks, landmarksOf};
 
 pub enum Kind {
     // A
@@ -39,6 +40,20 @@ pub fn kind_of(letter: u8) -> Kind
     }
 }
 
+// Whether a letter names a record.
+pub fn is_known(kind: Kind) -> bool
+    ensures { λ r. ⌜ r ≡ isKnown kind ⌝ }
+{
+    match kind {
+        Kind::Transmitter => true,
+        Kind::Employer => true,
+        Kind::Employee => true,
+        Kind::Total => true,
+        Kind::Final => true,
+        Kind::Unknown => false,
+    }
+}
+
 // The record's place in the order A, E, S, T, F, from 0.
 pub fn order_of(kind: Kind) -> usize
     ensures { λ r. ⌜ r ≡ placeInOrder kind ⌝ }
@@ -63,6 +78,7 @@ fn no_landmarks() -> Landmarks
         period_last: 0,
         state: 0,
         final_flag: 0,
+        further: NONE_FURTHER,
     }
 }
 
@@ -78,6 +94,7 @@ pub fn landmarks_of(kind: Kind) -> Landmarks
             period_last: PERIOD_OF_A[2],
             state: STATE_OF_A[1],
             final_flag: 0,
+            further: NONE_FURTHER,
         },
         Kind::Employer => Landmarks {
             year_first: YEAR_OF_E[1],
@@ -86,6 +103,7 @@ pub fn landmarks_of(kind: Kind) -> Landmarks
             period_last: PERIOD_OF_E[2],
             state: STATE_OF_E[1],
             final_flag: FINAL_OF_E[1],
+            further: NONE_FURTHER,
         },
         Kind::Employee => no_landmarks(),
         Kind::Total => no_landmarks(),

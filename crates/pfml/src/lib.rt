@@ -5,8 +5,6 @@ pub mod kind;
 pub mod place;
 pub mod said;
 
-use chars::columns;
-use chars::columns::Allowed;
 use edits::Context;
 use edits::Landmarks;
 use edits::Seen;
@@ -20,9 +18,9 @@ use pfml_fields::FIRST_OF_S;
 use pfml_fields::FIRST_OF_T;
 use pfml_fields::field_rules;
 use reason::Edit;
-use reason::Reason;
 use shape::Asking;
 use shape::Said;
+use shape::head;
 ghost use mathlib.Core.Path.{_≡_};
 ghost use Prim.Native.Nat.{_-_, _≤_};
 ghost use lib.ListN.{take, drop};
@@ -37,8 +35,6 @@ ghost use Rattle.pfml_fields.specs.FieldRules.{rules};
 ghost use Rattle.shape.specs.Shape.{feinAsked, idAsked};
 ghost use Rattle.pfml.specs.Edits.{rowsFor, rulesFor, around as aroundOf, placedEdits, headEdits, textEdits, editsOn};
 ghost use Rattle.pfml.specs.Says.{says};
-ghost use Rattle.pfml.specs.Kinds.{isKnown};
-ghost use Rattle.chars.specs.Columns.{unless};
 
 // The taxing entity's code.
 pub const ENTITY: [u8; 4] = *b"PFML";
@@ -96,33 +92,12 @@ fn placed_edit(kind: Kind, here: Context) -> Edit
     }
 }
 
-// A letter that names no record.
-fn letter_edit(kind: Kind) -> Edit
-    ensures { λ r. ⌜ findingOf r ≡ unless (isKnown kind) 1 4 ⌝ }
-{
-    match kind {
-        Kind::Transmitter => Edit::Passed,
-        Kind::Employer => Edit::Passed,
-        Kind::Employee => Edit::Passed,
-        Kind::Total => Edit::Passed,
-        Kind::Final => Edit::Passed,
-        Kind::Unknown => Edit::Broken(1, Reason::UnknownLetter),
-    }
-}
-
 // Characters, letter, place and count.
 fn head_edit(kind: Kind, here: Context, line: &[u8]) -> Edit
     ensures { λ r. ⌜ findingOf r ≡ firstBroken (headEdits here (capitals (now (line .entry))) kind) ⌝ }
 {
-    let e = columns::every_column(Allowed::Permitted, line, 1, pfml_fields::RECORD);
-    if let Edit::Broken(_, _) = e {
-        return e;
-    }
-    let l = letter_edit(kind);
-    if let Edit::Broken(_, _) = l {
-        return l;
-    }
-    placed_edit(kind, here)
+    let placed = placed_edit(kind, here);
+    head::head_edit(pfml_fields::RECORD, kind::is_known(kind), placed, line)
 }
 
 // All edits of a record of this kind.

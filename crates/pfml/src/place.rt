@@ -3,13 +3,10 @@ use crate::kind::Kind;
 use edits::Phase;
 use reason::Edit;
 use reason::Reason;
+use shape::head;
 ghost use mathlib.Core.Path.{_≡_};
-ghost use mathlib.Core.Bool.{not};
-ghost use lib.Dec.{leb};
 ghost use Rattle.reason.specs.ReasonNumbers.{findingOf};
-ghost use Rattle.chars.specs.Columns.{unless};
 ghost use Rattle.edits.specs.Edit.{firstBroken};
-ghost use Rattle.shape.specs.Limits.{mostEmployees};
 ghost use Rattle.pfml.specs.Place.{placeEdits, countEdit};
 ghost use Rattle.pfml.specs.PlaceTables.{beforeA, afterA, underE, afterT, afterF};
 
@@ -101,15 +98,6 @@ pub fn place_edit(phase: Phase, follow: bool, kind: Kind) -> Edit
     }
 }
 
-fn one_more(count: u64) -> Edit
-    ensures { λ r. ⌜ findingOf r ≡ unless (not (leb mostEmployees count)) 1 61 ⌝ }
-{
-    if count < shape::MOST_EMPLOYEES {
-        return Edit::Passed;
-    }
-    Edit::Broken(1, Reason::TooManyS)
-}
-
 // No S record beyond the 100,000th.
 pub fn count_edit(kind: Kind, count: u64) -> Edit
     ensures { λ r. ⌜ findingOf r ≡ countEdit kind count .finds ⌝ }
@@ -117,7 +105,7 @@ pub fn count_edit(kind: Kind, count: u64) -> Edit
     match kind {
         Kind::Transmitter => Edit::Passed,
         Kind::Employer => Edit::Passed,
-        Kind::Employee => one_more(count),
+        Kind::Employee => head::one_more(count),
         Kind::Total => Edit::Passed,
         Kind::Final => Edit::Passed,
         Kind::Unknown => Edit::Passed,

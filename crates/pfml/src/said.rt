@@ -32,10 +32,16 @@ fn employer_on(line: &[u8]) -> Said
 {
     Said::OfE(EmployerOn {
         fein: rows::value_at(line, FEIN_OF_E),
+        once: true,
         follow: is_set(line, NO_WAGES_OF_E),
         amended: rows::value_at(line, AMENDED_OF_E),
         final_return: rows::value_at(line, FINAL_OF_E),
         cease_date: rows::value_at(line, CEASE_DATE_OF_E),
+        account_head: 0,
+        account_tail: 0,
+        files: false,
+        year: 0,
+        month: 0,
     })
 }
 

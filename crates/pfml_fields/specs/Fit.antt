@@ -12,8 +12,9 @@ use Rattle.laws.specs.Table.{every, at}
 use Rattle.field.specs.Classes.{classNumber, classOf}
 use Rattle.field.specs.ClassLaws.{class-again}
 use Rattle.field.specs.declared.class.Class.{Class}
-use Rattle.field.specs.declared.class.Class.the-variants.{Ignored, RecordLetter, BlankSpace, Numeric, AccountNumber, Flag, ThirdQuarterFlag, Period, RequiredText, OptionalText, PersonName, EntityCode, StateCode, ZipCode, ZipExtension, TaxYear, EmployerFein, IdentityNumber, CeaseDate}
+use Rattle.field.specs.declared.class.Class.the-variants.{Ignored, RecordLetter, BlankSpace, Numeric, AccountNumber, Flag, ThirdQuarterFlag, Period, RequiredText, OptionalText, PersonName, EntityCode, StateCode, ZipCode, ZipExtension, TaxYear, EmployerFein, IdentityNumber, CeaseDate, More}
 use Rattle.edits.specs.FieldRow.{classIn, firstIn, lastIn, widthIn}
+use Rattle.edits.specs.RowTests.{widthTest}
 use Rattle.pfml_fields.specs.Fields.{fieldsOfA, fieldsOfE, fieldsOfS, fieldsOfT, fieldsOfF, fields}
 use Rattle.pfml_fields.specs.Rows.{all-fields}
 
@@ -72,29 +73,6 @@ module _ (rule : Class → ℕ → Bool) where
       rw (class-is _ (row-fits k h .class-known)) at (at obeys [] fields t k (rw all-fields h))
 
 -- ---- the width of a class
--- How many columns a field of each class has.
-abbrev pub widthTest : Class → ℕ → Bool
-widthTest RecordLetter width = eqb width 1
-widthTest BlankSpace width = leb 1 width
-widthTest Numeric width = leb 1 width && leb width 15
-widthTest AccountNumber width = eqb width 10
-widthTest Flag width = eqb width 1
-widthTest ThirdQuarterFlag width = eqb width 1
-widthTest Period width = eqb width 2
-widthTest RequiredText width = leb 1 width
-widthTest OptionalText width = leb 1 width
-widthTest PersonName width = leb 1 width
-widthTest EntityCode width = eqb width 4
-widthTest StateCode width = eqb width 2
-widthTest ZipCode width = eqb width 5
-widthTest ZipExtension width = eqb width 5
-widthTest TaxYear width = eqb width 4
-widthTest EmployerFein width = eqb width 9
-widthTest IdentityNumber width = eqb width 9
-widthTest CeaseDate width = eqb width 8
--- the five tables have no unused columns that are ignored
-widthTest Ignored width = false
-
 all-wide : T (every (obeys widthTest) [] 0 fields)
 unfolding obeys byNumber fields fieldsOfA fieldsOfE fieldsOfS fieldsOfT fieldsOfF
 all-wide = tt
@@ -124,6 +102,7 @@ isNumber TaxYear = true
 isNumber EmployerFein = true
 isNumber IdentityNumber = true
 isNumber CeaseDate = true
+isNumber (More class) = false
 
 -- Nothing is asked here of a field that is no number.
 abbrev numberTest : Class → ℕ → Bool

@@ -13,7 +13,9 @@ use Rattle.laws.specs.Table.{every, at}
 use Rattle.edits.specs.FieldRow.{firstIn, lastIn}
 use Rattle.pfml_fields.specs.Fields.{fieldsOfA, fieldsOfE, fieldsOfS, fieldsOfT, fieldsOfF, records, rowsOf, fields, starts, firstField}
 use Rattle.pfml_fields.specs.Rows.{five-records, in-record, row-of-record}
-use Rattle.pfml_fields.specs.Tiling.{tiles, tiles-first, rows-tile, row-within}
+use Rattle.edits.specs.RowTests.{tiles}
+use Rattle.edits.specs.RowTestLaws.{tiles-first, row-within}
+use Rattle.pfml_fields.specs.Tiling.{rows-tile}
 use Rattle.pfml_fields.specs.Map.{spread, columnMap, holds, isOf, covers, holding, fieldsAt, numbersOf}
 use Rattle.pfml_fields.specs.declared.FieldAt.{FieldAt}
 use Rattle.pfml_fields.specs.declared.FieldAt.the-variants.{Field, Nowhere}
@@ -51,21 +53,21 @@ module _ (column : ℕ) where
   none-holds k (row ∷ rows) none =
       rw (none 0 (omega arith)) (none-holds (suc k) rows (λ i h. none (suc i) (omega arith)))
 
-  one-holds : (from k : ℕ) (rows : List (List ℕ)) (i : ℕ) → tiles from rows ≡ true → i < length rows
+  one-holds : (from k : ℕ) (rows : List (List ℕ)) (i : ℕ) → tiles 290 from rows ≡ true → i < length rows
       → firstIn (getD rows i []) ≤ column → column ≤ lastIn (getD rows i []) → holding column k rows ≡ (k + i) ∷ []
   unfolding holding
   one-holds from k [] i t h low high = absurd (not-suc-le-zero h)
   one-holds from k (row ∷ rows) zero t h low high =
-      let rest = tiles-first from row rows t .2 in
+      let rest = tiles-first 290 from row rows t .2 in
       rw (does-hold row column low high, add-zero)
       (ap (λ (l : List ℕ). k ∷ l)
       (none-holds (suc k) rows
-      (λ i below. not-before (getD rows i []) column (omega (arith, row-within (lastIn row + 1) rows i rest below .0)))))
+      (λ i below. not-before (getD rows i []) column (omega (arith, row-within 290 (lastIn row + 1) rows i rest below .0)))))
   one-holds from k (row ∷ rows) (suc i) t h low high =
-      let rest = tiles-first from row rows t .2 in
+      let rest = tiles-first 290 from row rows t .2 in
       let below = le-of-suc-le-suc h in
       let place : k + suc i ≡ suc k + i = omega arith in
-      rw (not-behind row column (omega (arith, row-within (lastIn row + 1) rows i rest below .0)), place)
+      rw (not-behind row column (omega (arith, row-within 290 (lastIn row + 1) rows i rest below .0)), place)
       (one-holds (lastIn row + 1) (suc k) rows i rest below low high)
 
 -- ---- the field of a column
@@ -78,7 +80,7 @@ no-record kind column h =
 
 module _ (kind : ℕ) (h : kind < 5) where
   row-inside : (i : ℕ) → i < length (rowsOf kind) → (1 ≤ firstIn (getD (rowsOf kind) i [])) × (lastIn (getD (rowsOf kind) i []) ≤ 290)
-  row-inside i below = let w = row-within 1 (rowsOf kind) i (rows-tile kind h) below in (w .0, w .2)
+  row-inside i below = let w = row-within 290 1 (rowsOf kind) i (rows-tile kind h) below in (w .0, w .2)
 
   pub before-first : fieldsAt kind 0 ≡ []
   unfolding fieldsAt

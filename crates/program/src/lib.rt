@@ -3,6 +3,7 @@
 // is fixed, whatever the input's size.
 use ack::Progress;
 use ack::Turned;
+use edits::format;
 use edits::format::Format;
 use frames::Framed;
 use state::State;
@@ -17,9 +18,9 @@ ghost use lib.ListN.{length};
 // error.
 //
 // Cases: many such inputs. Each stands after eight digits, how many bytes it has; a blank; five
-// digits, how many bytes a read brings at most; LF. Its acknowledgement is told, and a line with a
-// full stop. The tables keep for the next case what one left in them. A case that is cut short ends
-// the program.
+// digits, how many bytes a read brings at most; a blank; a digit, the number of its format; LF. Its
+// acknowledgement is told, and a line with a full stop. The tables keep for the next case what one
+// left in them. A case that is cut short ends the program.
 pub enum Telling {
     One,
     Cases,
@@ -35,14 +36,15 @@ struct Held {
 }
 
 // Where the program is between two turns: how many bytes stand before the next read, how many turns
-// are left, how many bytes of the case are still to come, how many a read brings at most, and how
-// the input stands. No contract can say that an input ends, so the turns are counted down; none is
+// are left, how many bytes of the case are still to come, how many a read brings at most, the
+// input's format, and how it stands. No contract can say that an input ends, so the turns are counted down; none is
 // left when the program is done.
 struct Between {
     have: usize,
     turns: u64,
     left: u64,
     piece: u64,
+    format: Format,
     progress: Progress,
 }
 
@@ -190,7 +192,7 @@ fn one_less(turns: u64) -> u64
 }
 
 // Before the header of an input that has so many bytes, or of one that is all there is to read.
-fn before(turns: u64, left: u64, piece: u64) -> Between
+fn before(turns: u64, left: u64, piece: u64, format: Format) -> Between
     ensures { λ r. ⌜ r .turns ≤ turns ⌝ }
 {
     Between {
@@ -198,6 +200,7 @@ fn before(turns: u64, left: u64, piece: u64) -> Between
         turns,
         left,
         piece,
+        format,
         progress: Progress::Waiting,
     }
 }
@@ -205,27 +208,29 @@ fn before(turns: u64, left: u64, piece: u64) -> Between
 fn done() -> Between
     ensures { λ r. ⌜ r .turns ≤ 0 ⌝ }
 {
-    before(0, 0, 0)
+    before(0, 0, 0, Format::Unknown)
 }
 
 // The beginning of the next case, where there is one.
 fn next_case(turns: u64) -> Between
     ensures { λ r. ⌜ r .turns ≤ turns ⌝ }
 {
-    let mut head = [0u8; 15];
-    if io::read_full(libc::STDIN_FILENO, &mut head) < 15 {
+    let mut head = [0u8; 17];
+    if io::read_full(libc::STDIN_FILENO, &mut head) < 17 {
         return done();
     }
     before(
         turns,
         number::value_in(&head, 1, 8),
         number::value_in(&head, 10, 14),
+        format::format_of(number::value_in(&head, 16, 16)),
     )
 }
 
-fn start(telling: Telling) -> Between {
+// The one input is of this format; a case names its own.
+fn start(format: Format, telling: Telling) -> Between {
     match telling {
-        Telling::One => before(u64::MAX, 0, 0),
+        Telling::One => before(u64::MAX, 0, 0, format),
         Telling::Cases => next_case(u64::MAX),
     }
 }
@@ -287,11 +292,13 @@ fn after(
     if is_over(telling, held.ended, progress) {
         return told(telling, framed, out, one_less(last.turns));
     }
+    let format = last.format;
     Between {
         have: ack::keep(buf, turned.taken, held.bytes),
         turns: one_less(last.turns),
         left: held.left,
         piece: last.piece,
+        format,
         progress,
     }
 }
@@ -305,11 +312,11 @@ fn all_turns(
     list: &mut [Employer],
     out: &mut [u8],
 ) {
-    let mut at = start(telling);
+    let mut at = start(format, telling);
     while 0 < at.turns {
         let held = read_more(telling, buf, at);
         let turned = ack::turn(
-            format,
+            at.format,
             at.progress,
             &buf[..held.bytes],
             held.ended,
@@ -321,7 +328,7 @@ fn all_turns(
     }
 }
 
-// Acknowledges what standard input holds, each input in this format. That it ends is all that can
+// Acknowledges what standard input holds: the one input in this format, each case in its own. That it ends is all that can
 // be promised: no contract says what is read and written. The frames take at most 47 bytes for each
 // of 1,024 employers, and 35 more.
 pub fn run(format: Format, telling: Telling) {

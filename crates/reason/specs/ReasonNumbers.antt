@@ -9,7 +9,7 @@ use Rattle.reason.specs.declared.Edit.{Edit}
 use Rattle.reason.specs.declared.Edit.the-variants.{Passed, Broken}
 use Rattle.reason.specs.declared.Reason.{Reason}
 use Rattle.reason.specs.declared.Refusal.{Refusal}
-use Rattle.reason.specs.declared.Reason.the-variants.{LineLength, NoLineEnd, BadCharacter, UnknownLetter, EndsBeforeA, EndsAfterA, EndsWithEOpen, EndsWithoutF, BeforeA, SecondA, SWithoutE, TWithoutE, FWithoutE, EWhileEOpen, SUnderZeroE, FWhileEOpen, SecondT, SecondF, BehindF, NotDigit, NotBlank, TextMissing, TextIndented, NotEntityCode, UnknownState, BadZip, BadZipExtension, YearTooEarly, YearTooLate, BadPeriod, PeriodTooLate, YearNotOfA, PeriodNotOfA, FeinPrefix, FeinRepeated, FeinNotOfE, BadFlag, NoDate, DateOutsideQuarter, DateNotFinal, DateMissing, IdentityPrefix, IdentityRepeated, BadNameCharacter, CountNotOfS, NoneUnderE, WagesNotOfS, FileCountNotOfS, FileCountNotOfE, FileWagesNotOfS, TooManyS, IdTableFull, EmployerListFull, FeinZero, NotFinal, BadQuarter, WalkEnded, StateUnfit, UnknownFormat, NotToBeWritten, NoneToTotal, SumTooLarge, SliceLength, BuildLength, ValueTooLong}
+use Rattle.reason.specs.declared.Reason.the-variants.{LineLength, NoLineEnd, BadCharacter, UnknownLetter, EndsBeforeA, EndsAfterA, EndsWithEOpen, EndsWithoutF, BeforeA, SecondA, SWithoutE, TWithoutE, FWithoutE, EWhileEOpen, SUnderZeroE, FWhileEOpen, SecondT, SecondF, BehindF, NotDigit, NotBlank, TextMissing, TextIndented, NotEntityCode, UnknownState, BadZip, BadZipExtension, YearTooEarly, YearTooLate, BadPeriod, PeriodTooLate, YearNotOfA, PeriodNotOfA, FeinPrefix, FeinRepeated, FeinNotOfE, BadFlag, NoDate, DateOutsideQuarter, DateNotFinal, DateMissing, IdentityPrefix, IdentityRepeated, BadNameCharacter, CountNotOfS, NoneUnderE, WagesNotOfS, FileCountNotOfS, FileCountNotOfE, FileWagesNotOfS, TooManyS, IdTableFull, EmployerListFull, FeinZero, NotFinal, BadQuarter, WalkEnded, StateUnfit, UnknownFormat, NotToBeWritten, NoneToTotal, SumTooLarge, SliceLength, BuildLength, ValueTooLong, DepositNotOfQuarter}
 
 abbrev pub numberOf : Reason → ℕ
 numberOf LineLength = 1
@@ -77,6 +77,7 @@ numberOf SumTooLarge = 82
 numberOf SliceLength = 83
 numberOf BuildLength = 84
 numberOf ValueTooLong = 85
+numberOf DepositNotOfQuarter = 91
 
 -- Every reason.
 abbrev pub reasons : List Reason
@@ -86,7 +87,8 @@ reasons =
     NotEntityCode ∷ UnknownState ∷ BadZip ∷ BadZipExtension ∷ YearTooEarly ∷ YearTooLate ∷ BadPeriod ∷ PeriodTooLate ∷ YearNotOfA ∷ PeriodNotOfA ∷
     FeinPrefix ∷ FeinRepeated ∷ FeinNotOfE ∷ BadFlag ∷ NoDate ∷ DateOutsideQuarter ∷ DateNotFinal ∷ DateMissing ∷ IdentityPrefix ∷ IdentityRepeated ∷
     BadNameCharacter ∷ CountNotOfS ∷ NoneUnderE ∷ WagesNotOfS ∷ FileCountNotOfS ∷ FileCountNotOfE ∷ FileWagesNotOfS ∷ TooManyS ∷ IdTableFull ∷
-    EmployerListFull ∷ FeinZero ∷ NotFinal ∷ BadQuarter ∷ WalkEnded ∷ StateUnfit ∷ UnknownFormat ∷ NotToBeWritten ∷ NoneToTotal ∷ SumTooLarge ∷ SliceLength ∷ BuildLength ∷ ValueTooLong ∷ []
+    EmployerListFull ∷ FeinZero ∷ NotFinal ∷ BadQuarter ∷ WalkEnded ∷ StateUnfit ∷ UnknownFormat ∷ NotToBeWritten ∷ NoneToTotal ∷ SumTooLarge ∷ SliceLength ∷ BuildLength ∷ ValueTooLong ∷
+    DepositNotOfQuarter ∷ []
 
 -- The first of them that has a number; where none has it, the reason of 72.
 unfoldable pub havingNumber : ℕ → List Reason → Reason

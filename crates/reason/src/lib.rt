@@ -136,6 +136,8 @@ pub enum Reason {
     BuildLength,
     // 85: A value too long for its field.
     ValueTooLong,
+    // 91: A deposit's quarter is not the file's.
+    DepositNotOfQuarter,
 }
 
 // A refusal: a place together with the reason. Line and column are counted from 1.
@@ -221,6 +223,7 @@ pub fn number_of(reason: Reason) -> u8
         Reason::SliceLength => 83,
         Reason::BuildLength => 84,
         Reason::ValueTooLong => 85,
+        Reason::DepositNotOfQuarter => 91,
     }
 }
 
@@ -294,6 +297,7 @@ pub fn reason_of(number: u64) -> Reason
         83 => Reason::SliceLength,
         84 => Reason::BuildLength,
         85 => Reason::ValueTooLong,
+        91 => Reason::DepositNotOfQuarter,
         _ => Reason::StateUnfit,
     }
 }

@@ -9,6 +9,7 @@ use Rattle.laws.specs.Finding.{broken}
 use Rattle.lines.specs.Lines.{Line, firstLine, sizeOf}
 use Rattle.lines.specs.Lent.{Lent}
 use Rattle.chars.specs.Characters.{capitals}
+use Rattle.edits.specs.Counted.{withoutSums}
 use Rattle.edits.specs.Edit.{firstBroken}
 use Rattle.edits.specs.Labels.{AllLabelled, FirstIn}
 use Rattle.edits.specs.declared.Context.{Context}
@@ -17,28 +18,30 @@ use Rattle.edits.specs.declared.Phase.{Phase}
 use Rattle.edits.specs.declared.Phase.the-variants.{EOpen}
 use Rattle.edits.specs.declared.Seen.{Seen}
 use Rattle.edits.specs.declared.format.Format.{Format}
-use Rattle.edits.specs.declared.format.Format.the-variants.{Pfml, Unknown}
+use Rattle.edits.specs.declared.format.Format.the-variants.{Pfml, Wham2024, Unknown}
 use Rattle.shape.specs.After.{phaseAfter, filedAfter, openAfter, usedAfter, totalsAfter}
 use Rattle.shape.specs.Among.{judge-says-by, judged-size-by, passed-fits-by, passed-bounded-by, quarter-kept-by, more-kept-by, passed-positive-by, passed-length-by, refusal-left-by, end-left-by, asked-of-bytes-by, judge-lent-by}
 use Rattle.shape.specs.EndOfInput.{endEdits}
 use Rattle.shape.specs.Fits.{Fits, Bounded}
-use Rattle.shape.specs.Hidden.{isEmployee, employeeOn, blot, MeetsOwn}
-use Rattle.shape.specs.Judged.{alike-judged-by, other-judged-by}
+use Rattle.shape.specs.Hidden.{isEmployee, isNote, employeeOn, blot, MeetsOwn}
+use Rattle.shape.specs.Judged.{alike-judged-by, note-judged-by, other-judged-by}
 use Rattle.shape.specs.Phases.{stands}
 use Rattle.shape.specs.Shape.{Shape, refusal, passed, verdictBy, lineEditsBy, judgeBy, editsAmongBy}
 use Rattle.shape.specs.Theorems.{line-labelled-by}
-use Rattle.shape.specs.Twins.{withoutSums}
 use Rattle.shape.specs.declared.Said.{Said}
 use Rattle.shape.specs.Lawful.{Lawful}
 use Rattle.shape.specs.NoFormatLawful.{no-lawful}
 use Rattle.pfml.specs.Format.{pfmlShape}
 use Rattle.pfml.specs.PfmlLawful.{pfml-lawful}
+use Rattle.wham.specs.WhamLawful.{wham-lawful}
+use Rattle.wham_fields.specs.declared.Edition.the-variants.{Of2024}
 use Rattle.record.specs.ShapeOf.{shapeOf}
 use Rattle.record.specs.Judge.{recordOn, judge, seenOn, editsAmong, judgeAmong}
 
 -- Every format is lawful.
 pub lawfulOf : (format : Format) → Lawful (shapeOf format)
 lawfulOf Pfml = pfml-lawful
+lawfulOf Wham2024 = wham-lawful Of2024
 lawfulOf Unknown = no-lawful
 
 -- What the record on any line says is small.
@@ -68,7 +71,7 @@ module _ (here : Context) (seen : Seen) (line : Line) where
     unfolding judge
     judged-size = judged-size-by s here seen line taken said e
 
-    pub judged-fits : Fits here said
+    pub judged-fits : Fits (shapeOf (here .held .format)) here said
     unfolding judge
     judged-fits = passed-fits-by s (lawfulOf (here .held .format)) here seen line taken said e
 
@@ -104,7 +107,7 @@ module _ (here : Context) (earlier under : ℕ → Bool) where
       → (taken ≡ sizeOf line) × (said ≡ recordOn (here .held .format) line)
   passed-size line taken said e = judged-size here (seenOn (here .held .format) earlier under (capitals (line .text))) line taken said e
 
-  pub passed-fits : (line : Line) (taken : ℕ) (said : Said) → judgeAmong here earlier under line ≡ passed taken said → Fits here said
+  pub passed-fits : (line : Line) (taken : ℕ) (said : Said) → judgeAmong here earlier under line ≡ passed taken said → Fits (shapeOf (here .held .format)) here said
   passed-fits line taken said e = judged-fits here (seenOn (here .held .format) earlier under (capitals (line .text))) line taken said e
 
   pub passed-positive : (line : Line) (taken : ℕ) (said : Said) → judgeAmong here earlier under line ≡ passed taken said → 1 ≤ sizeOf line
@@ -137,6 +140,14 @@ module _ (here here' : Context) (same : withoutSums here ≡ withoutSums here') 
       let held : here .held ≡ here' .held = ap (λ (c : Context). c .held) same in
       alike-judged-by shape (lawfulOf (here .held .format)) here here' same line line' bytes is earlier under under' ours theirs zeros asked
       ∙ ap (λ (o : Opening). firstBroken (editsAmongBy (shapeOf (o .format)) here' earlier under' line')) held
+
+-- A note, in such contexts.
+pub note-judged : (here here' : Context) → withoutSums here ≡ withoutSums here' → (line : Line) → isNote (shapeOf (here .held .format)) line ≡ true
+    → (earlier under under' : ℕ → Bool) → firstBroken (editsAmong here earlier under line) ≡ firstBroken (editsAmong here' earlier under' line)
+note-judged here here' same line is earlier under under' =
+    let held : here .held ≡ here' .held = ap (λ (c : Context). c .held) same in
+    note-judged-by (shapeOf (here .held .format)) (lawfulOf (here .held .format)) here here' same line is earlier under under'
+    ∙ ap (λ (o : Opening). firstBroken (editsAmongBy (shapeOf (o .format)) here' earlier under' line)) held
 
 -- Any other line asks nothing of the identity numbers.
 pub other-judged : (here : Context) (earlier under under' : ℕ → Bool) (line : Line) → isEmployee (shapeOf (here .held .format)) line ≡ false

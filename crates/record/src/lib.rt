@@ -9,12 +9,12 @@ use edits::Seen;
 use edits::Totals;
 use edits::format::Format;
 use lines::Cut;
-use pfml::fitness;
 use reason::Edit;
 use reason::Reason;
 use shape::Asking;
 use shape::Said;
 use shape::Verdict;
+use wham_fields::Edition;
 ghost use mathlib.Core.Path.{_≡_};
 ghost use mathlib.Core.Bool.{_&&_};
 ghost use lib.Dec.{leb};
@@ -32,6 +32,7 @@ pub fn length_of(format: Format) -> u16
 {
     match format {
         Format::Pfml => pfml_fields::RECORD,
+        Format::Wham2024 => wham_fields::RECORD,
         Format::Unknown => 1,
     }
 }
@@ -41,7 +42,8 @@ pub fn most_lines(format: Format) -> u32
     ensures { λ r. ⌜ r ≡ shapeOf format .mostLines ⌝ }
 {
     match format {
-        Format::Pfml => fitness::MOST_LINES,
+        Format::Pfml => pfml::fitness::MOST_LINES,
+        Format::Wham2024 => wham::fitness::most_lines(Edition::Of2024),
         Format::Unknown => 231074,
     }
 }
@@ -51,7 +53,8 @@ pub fn most_cents(format: Format) -> u64
     ensures { λ r. ⌜ r ≡ shapeOf format .mostCents ⌝ }
 {
     match format {
-        Format::Pfml => fitness::MOST_CENTS,
+        Format::Pfml => pfml::fitness::MOST_CENTS,
+        Format::Wham2024 => wham::fitness::MOST_CENTS,
         Format::Unknown => 99999999999999,
     }
 }
@@ -69,7 +72,8 @@ pub fn unfit_more(
     ensures { λ r. ⌜ r ≡ shapeOf format .unfitMore ids used «is_open» all e ⌝ }
 {
     match format {
-        Format::Pfml => fitness::ids_unfit(ids, used, is_open),
+        Format::Pfml => pfml::fitness::ids_unfit(ids, used, is_open),
+        Format::Wham2024 => wham::fitness::second_unfit(is_open, all, e),
         Format::Unknown => false,
     }
 }
@@ -80,7 +84,8 @@ pub fn quarter_unfit(phase: Phase, held: Opening, filed: Quarter) -> bool
 {
     let format = held.format;
     match format {
-        Format::Pfml => fitness::quarter_unfit(phase, held, filed),
+        Format::Pfml => pfml::fitness::quarter_unfit(phase, held, filed),
+        Format::Wham2024 => wham::fitness::quarter_unfit(phase, held, filed),
         Format::Unknown => false,
     }
 }
@@ -99,7 +104,8 @@ pub fn is_left(format: Format, number: u8) -> bool
     ensures { λ r. ⌜ r ≡ shapeOf format .isLeft number ⌝ }
 {
     match format {
-        Format::Pfml => fitness::is_left(number),
+        Format::Pfml => pfml::fitness::is_left(number),
+        Format::Wham2024 => wham::fitness::is_left(Edition::Of2024, number),
         Format::Unknown => is_of_line(number),
     }
 }
@@ -110,6 +116,7 @@ fn text_edit(format: Format, here: Context, seen: Seen, line: &[u8]) -> Edit
 {
     match format {
         Format::Pfml => pfml::text_edit(here, seen, line),
+        Format::Wham2024 => wham::text_edit(Edition::Of2024, here, seen, line),
         Format::Unknown => Edit::Broken(1, Reason::UnknownLetter),
     }
 }
@@ -120,6 +127,7 @@ pub fn said_on(format: Format, line: &[u8]) -> Said
 {
     match format {
         Format::Pfml => pfml::said_on(line),
+        Format::Wham2024 => wham::said_on(line),
         Format::Unknown => Said::OfNone,
     }
 }
@@ -130,6 +138,7 @@ pub fn fein_asked(format: Format, line: &[u8]) -> Asking
 {
     match format {
         Format::Pfml => pfml::fein_asked(line),
+        Format::Wham2024 => wham::fein_asked(line),
         Format::Unknown => shape::asks_nothing(),
     }
 }
@@ -140,6 +149,7 @@ pub fn id_asked(format: Format, line: &[u8]) -> Asking
 {
     match format {
         Format::Pfml => pfml::id_asked(line),
+        Format::Wham2024 => wham::id_asked(line),
         Format::Unknown => shape::asks_nothing(),
     }
 }

@@ -79,6 +79,10 @@ pub period-alike : (u v : List ℕ) (first last : ℕ) → Agree u v first last 
 unfolding periodIn
 period-alike u v first last agree = ap (onlyOwn isQuarterMonth first 40) (number-alike u v first last agree)
 
+pub flag-alike : (u v : List ℕ) (column : ℕ) → Agree u v column column → flagIn u column ≡ flagIn v column
+unfolding flagIn
+flag-alike u v column agree = ap (onlyOwn (λ flag. leb flag 1) column 47) (number-alike u v column column agree)
+
 -- ---- the labels of the refusals: a rule that gives its own number gives no other, and gives it at the first column
 own-labelled : (passes : ℕ → Bool) (first number : ℕ) (r : Reading) → Labelled number first first (findingIn (onlyOwn passes first number r))
 own-labelled passes first number (value v) = rw rule-finds (unless-labelled (passes v) first number)

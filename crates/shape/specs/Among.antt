@@ -56,8 +56,8 @@ module _ (s : Shape) (l : Lawful s) (here : Context) (seen : Seen) (line : Line)
     says = sym (judged-size-by s here seen line taken said e .1)
 
     -- its record is in its place, has room, and says nothing too large;
-    pub passed-fits-by : Fits here said
-    passed-fits-by = subst (Fits here) says (l .fits here seen (capitals (line .text)) (text-fine s here seen line taken said e))
+    pub passed-fits-by : Fits s here said
+    passed-fits-by = subst (Fits s here) says (l .fits here seen (capitals (line .text)) (text-fine s here seen line taken said e))
 
     pub passed-bounded-by : Bounded s said
     passed-bounded-by = subst (Bounded s) says (l .bounded (capitals (line .text)))

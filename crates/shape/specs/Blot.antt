@@ -24,7 +24,7 @@ use Rattle.shape.specs.Shape.{Shape, saidOn}
 
 -- ---- texts
 module _ (hides : ℕ → Bool) where
-  blot-length : (column : ℕ) (text : List ℕ) → length (blotFrom hides column text) ≡ length text
+  pub blot-length : (column : ℕ) (text : List ℕ) → length (blotFrom hides column text) ≡ length text
   unfolding blotFrom
   blot-length column [] = refl
   blot-length column (c ∷ text) = rw (blot-length (column + 1) text)
@@ -37,7 +37,7 @@ module _ (hides : ℕ → Bool) where
   blot-front (suc k) column (c ∷ text) shown =
       rw (shown column (omega arith)) (ap (λ (l : List ℕ). c ∷ l) (blot-front k (column + 1) text (λ d below. shown d (omega arith))))
 
-  blot-no-end : (column : ℕ) (text : List ℕ) → hasNoEnd text → hasNoEnd (blotFrom hides column text)
+  pub blot-no-end : (column : ℕ) (text : List ℕ) → hasNoEnd text → hasNoEnd (blotFrom hides column text)
   unfolding blotFrom
   blot-no-end column [] none = tt
   blot-no-end column (c ∷ text) none = (blank-no-end (hides column) c (none .0), blot-no-end (column + 1) text (none .1))
@@ -49,7 +49,7 @@ module _ (hides : ℕ → Bool) where
   blot-at (c ∷ text) column (suc at) e = blot-at text (column + 1) at (let p : column + 1 + at ≡ column + suc at = omega arith in rw p e)
 
   -- Texts that are the same in every shown column are the same blotted.
-  blot-shown : (column : ℕ) (s t : List ℕ) → length s ≡ length t → ((at : ℕ) → hides (column + at) ≡ false → getD s at 0 ≡ getD t at 0)
+  pub blot-shown : (column : ℕ) (s t : List ℕ) → length s ≡ length t → ((at : ℕ) → hides (column + at) ≡ false → getD s at 0 ≡ getD t at 0)
       → blotFrom hides column s ≡ blotFrom hides column t
   unfolding blotFrom
   blot-shown column [] [] long same = refl
@@ -64,7 +64,7 @@ module _ (hides : ℕ → Bool) where
     behind at e = same (suc at) (let p : column + suc at ≡ column + 1 + at = omega arith in rw p e)
 
 -- The same columns, told by another test.
-blot-told : (hides other : ℕ → Bool) → ((c : ℕ) → hides c ≡ other c) → (column : ℕ) (text : List ℕ) → blotFrom hides column text ≡ blotFrom other column text
+pub blot-told : (hides other : ℕ → Bool) → ((c : ℕ) → hides c ≡ other c) → (column : ℕ) (text : List ℕ) → blotFrom hides column text ≡ blotFrom other column text
 unfolding blotFrom
 blot-told hides other same column [] = refl
 blot-told hides other same column (c ∷ text) = rw (same column) (ap (λ (l : List ℕ). (if other column then 32 else c) ∷ l) (blot-told hides other same (column + 1) text))

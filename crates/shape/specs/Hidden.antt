@@ -13,7 +13,7 @@ use Rattle.edits.specs.Edit.{firstBroken}
 use Rattle.shape.specs.Shape.{Shape, saidOn}
 use Rattle.shape.specs.declared.EmployeeOn.{EmployeeOn}
 use Rattle.shape.specs.declared.Said.{Said}
-use Rattle.shape.specs.declared.Said.the-variants.{OfA, OfE, OfS, OfT, OfF, OfNone}
+use Rattle.shape.specs.declared.Said.the-variants.{OfA, OfE, OfS, OfT, OfF, OfNote, OfNone}
 
 -- Whether a record is of an employee, or of an employer.
 abbrev pub ofEmployee : Said → Bool
@@ -22,6 +22,7 @@ ofEmployee (OfE employer) = false
 ofEmployee (OfS employee) = true
 ofEmployee OfT = false
 ofEmployee OfF = false
+ofEmployee (OfNote note) = false
 ofEmployee OfNone = false
 
 abbrev pub ofEmployer : Said → Bool
@@ -30,7 +31,18 @@ ofEmployer (OfE employer) = true
 ofEmployer (OfS employee) = false
 ofEmployer OfT = false
 ofEmployer OfF = false
+ofEmployer (OfNote note) = false
 ofEmployer OfNone = false
+
+-- Whether it is a note, which parts no E from the S records under it.
+abbrev pub ofNote : Said → Bool
+ofNote (OfA quarter) = false
+ofNote (OfE employer) = false
+ofNote (OfS employee) = false
+ofNote OfT = false
+ofNote OfF = false
+ofNote (OfNote note) = true
+ofNote OfNone = false
 
 -- What a record says of its employee; of none, zeros.
 abbrev pub employeeIn : Said → EmployeeOn
@@ -39,6 +51,7 @@ employeeIn (OfE employer) = record { id = 0; wages = 0; second = 0 }
 employeeIn (OfS employee) = employee
 employeeIn OfT = record { id = 0; wages = 0; second = 0 }
 employeeIn OfF = record { id = 0; wages = 0; second = 0 }
+employeeIn (OfNote note) = record { id = 0; wages = 0; second = 0 }
 employeeIn OfNone = record { id = 0; wages = 0; second = 0 }
 
 -- A text with these columns blotted out; it begins at a column.
@@ -47,12 +60,15 @@ blotFrom hides column [] = []
 blotFrom hides column (c ∷ text) = (if hides column then 32 else c) ∷ blotFrom hides (column + 1) text
 
 module _ (s : Shape) where
-  -- "S records (lines of 290 characters)", with or without an end; and E records likewise. 290 is the format's length.
+  -- "S records (lines of 290 characters)", with or without an end; E records and notes likewise. 290 is the format's length.
   abbrev pub isEmployee : Line → Bool
   isEmployee line = eqb (length (line .text)) (s .length) && ofEmployee (saidOn s line)
 
   abbrev pub isEmployer : Line → Bool
   isEmployer line = eqb (length (line .text)) (s .length) && ofEmployer (saidOn s line)
+
+  abbrev pub isNote : Line → Bool
+  isNote line = eqb (length (line .text)) (s .length) && ofNote (saidOn s line)
 
   -- What an S record says of the employee.
   abbrev pub employeeOn : Line → EmployeeOn

@@ -14,17 +14,19 @@ use Rattle.lines.specs.Lines.{Line}
 use Rattle.lines.specs.CutOutcomes.{no-end, takes, taken-is-size}
 use Rattle.chars.specs.Characters.{isPermitted, capitalOf, capitals}
 use Rattle.chars.specs.CharacterLaws.{capital-at, capital-permitted}
+use Rattle.edits.specs.Counted.{withoutSums}
 use Rattle.edits.specs.Edit.{firstBroken}
 use Rattle.edits.specs.declared.Context.{Context}
 use Rattle.edits.specs.declared.Seen.{Seen}
 use Rattle.shape.specs.Blot.{blot-at, employee-alike, columns-alike, text-alike, ending-alike}
-use Rattle.shape.specs.Hidden.{ofEmployee, ofEmployer, employeeIn, blotFrom, isEmployee, isEmployer, employeeOn, hidesOn, blot, MeetsOwn}
+use Rattle.shape.specs.Hidden.{ofEmployee, ofEmployer, ofNote, employeeIn, blotFrom, isEmployee, isEmployer, isNote, employeeOn, hidesOn, blot, MeetsOwn}
 use Rattle.shape.specs.Lawful.{Lawful}
 use Rattle.shape.specs.Shape.{Shape, saidOn, seenOf, seenBy, lineEditsBy, editsAmongBy}
 use Rattle.shape.specs.Theorems.{line-parts, cut-breaks}
-use Rattle.shape.specs.Twins.{withoutSums, Alike, Permits, Twins}
+use Rattle.shape.specs.Twins.{Alike, Permits, Twins}
+use Rattle.shape.specs.declared.Note.{Note}
 use Rattle.shape.specs.declared.Said.{Said}
-use Rattle.shape.specs.declared.Said.the-variants.{OfA, OfE, OfS, OfT, OfF, OfNone}
+use Rattle.shape.specs.declared.Said.the-variants.{OfA, OfE, OfS, OfT, OfF, OfNote, OfNone}
 
 -- ---- what a record of an employee says
 pub employee-says : (said : Said) → ofEmployee said ≡ true → said ≡ OfS (employeeIn said)
@@ -33,6 +35,7 @@ employee-says (OfE employer) e = absurd (false≢true e)
 employee-says (OfS employee) e = refl
 employee-says OfT e = absurd (false≢true e)
 employee-says OfF e = absurd (false≢true e)
+employee-says (OfNote note) e = absurd (false≢true e)
 employee-says OfNone e = absurd (false≢true e)
 
 -- Two lines of n characters with the same end are cut alike.
@@ -46,7 +49,7 @@ cut-alike n line line' long long' same = at (length (line .ending)) refl where
       rw (takes n line long (omega arith), takes n line' long' (omega arith))
 
 -- Texts that are the same blotted are alike, read in capitals.
-blot-alike : (hides : ℕ → Bool) (s t : List ℕ) → blotFrom hides 1 s ≡ blotFrom hides 1 t → Alike hides (capitals s) (capitals t)
+pub blot-alike : (hides : ℕ → Bool) (s t : List ℕ) → blotFrom hides 1 s ≡ blotFrom hides 1 t → Alike hides (capitals s) (capitals t)
 blot-alike hides s t e at p =
     let q : hides (1 + at) ≡ false = let o : 1 + at ≡ at + 1 = omega arith in rw o p in
     capital-at s at ∙ ap capitalOf (sym (blot-at hides s 1 at q) ∙ ap (λ (l : List ℕ). getD l at 0) e ∙ blot-at hides t 1 at q) ∙ sym (capital-at t at)
@@ -81,6 +84,7 @@ module _ (s : Shape) where
   asks-none earlier under under' (OfS e) none = absurd (false≢true (sym none))
   asks-none earlier under under' OfT none = refl
   asks-none earlier under under' OfF none = refl
+  asks-none earlier under under' (OfNote note) none = refl
   asks-none earlier under under' OfNone none = refl
 
   not-employee : (long is : Bool) → long && is ≡ false → long ≡ true → is ≡ false
@@ -95,6 +99,35 @@ module _ (s : Shape) where
         let long = eq-eqb (length (line .text)) (s .length) (taken-is-size (s .length) taken line e .0) in
         ap (λ (seen : Seen). firstBroken (lineEditsBy s here seen line))
         (asks-none earlier under under' (saidOn s line) (not-employee (eqb (length (line .text)) (s .length)) (ofEmployee (saidOn s line)) other long))
+
+-- ---- a note in contexts that are alike but for the sums
+note-says : (said : Said) → ofNote said ≡ true → (note : Note) × (said ≡ OfNote note)
+note-says (OfA quarter) e = absurd (false≢true e)
+note-says (OfE employer) e = absurd (false≢true e)
+note-says (OfS employee) e = absurd (false≢true e)
+note-says OfT e = absurd (false≢true e)
+note-says OfF e = absurd (false≢true e)
+note-says (OfNote note) e = (note, refl)
+note-says OfNone e = absurd (false≢true e)
+
+module _ (s : Shape) where
+  pub said-note : (line : Line) → length (line .text) ≡ s .length → ofNote (saidOn s line) ≡ true → isNote s line ≡ true
+  said-note line long is = rw (eq-eqb (length (line .text)) (s .length) long, is)
+
+  -- What a note says.
+  pub note-said : (line : Line) → isNote s line ≡ true → (note : Note) × (saidOn s line ≡ OfNote note)
+  note-said line is = note-says (saidOn s line) (both-hold (eqb (length (line .text)) (s .length)) (ofNote (saidOn s line)) is .1)
+
+  pub note-judged-by : Lawful s → (here here' : Context) → withoutSums here ≡ withoutSums here' → (line : Line) → isNote s line ≡ true → (earlier under under' : ℕ → Bool)
+      → firstBroken (editsAmongBy s here earlier under line) ≡ firstBroken (editsAmongBy s here' earlier under' line)
+  note-judged-by l here here' same line is earlier under under' =
+      let u = capitals (line .text) in
+      let says = note-said line is in
+      let seen-same : seenBy s earlier under u ≡ seenBy s earlier under' u = rw (says .1) in
+      line-parts s here (seenBy s earlier under u) line
+      ∙ ap (orElse (findingIn (cutting (s .length) line))) (l .note-alike here here' (seenBy s earlier under u) u (says .0) (says .1) same)
+      ∙ ap (λ (seen : Seen). orElse (findingIn (cutting (s .length) line)) (firstBroken (s .edits here' seen u))) seen-same
+      ∙ sym (line-parts s here' (seenBy s earlier under' u) line)
 
 -- ---- two S records, alike but in hidden columns, in contexts alike but for the sums
 module _ (s : Shape) (l : Lawful s) (here here' : Context) (same : withoutSums here ≡ withoutSums here')

@@ -1,5 +1,7 @@
 pub mod Limits
 pub mod Phases
+pub mod Head
+pub mod HeadLaws
 pub mod EndOfInput
 pub mod EndOfInputLaws
 pub mod Shape
@@ -7,10 +9,12 @@ pub mod After
 pub mod Fits
 pub mod Hidden
 pub mod Twins
+pub mod TwinLaws
 pub mod Lawful
 pub mod Theorems
 pub mod Among
 pub mod Blot
+pub mod BlotBy
 pub mod Judged
 pub mod Once
 pub mod NoFormat

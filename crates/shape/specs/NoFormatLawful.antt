@@ -44,6 +44,7 @@ no-lawful =
       more-unlent = λ ids used isOpen all this e. refl;
       second-fits = λ ids used all this text many under e. tt;
       hidden-alike = λ here here' seen seen' u v twins. refl;
+      note-alike = λ here here' seen text note e same. refl;
       hides-within = λ text column e. absurd (false≢true e);
       front-shown = λ text column h. refl;
       front-tells = λ u v same. (refl, λ column. refl);

@@ -2,6 +2,7 @@
 use Prim.Native.Nat.{ℕ}
 use mathlib.Core.Bool.{Bool, true, false, _&&_}
 use mathlib.Core.List.{List, _∷_}
+use Rattle.laws.specs.Choice.{if_then_else_}
 use Rattle.laws.specs.Finding.{Finding, fine, broken}
 use Rattle.lines.specs.Cutting.{beyond, lengthTest, endTest}
 use Rattle.lines.specs.Lines.{Line, sizeOf}
@@ -17,7 +18,7 @@ use Rattle.edits.specs.declared.Seen.{Seen}
 use Rattle.edits.specs.declared.Totals.{Totals}
 use Rattle.shape.specs.declared.Asking.{Asking}
 use Rattle.shape.specs.declared.Said.{Said}
-use Rattle.shape.specs.declared.Said.the-variants.{OfA, OfE, OfS, OfT, OfF, OfNone}
+use Rattle.shape.specs.declared.Said.the-variants.{OfA, OfE, OfS, OfT, OfF, OfNote, OfNone}
 use Rattle.shape.specs.declared.Verdict.{Verdict}
 use Rattle.shape.specs.declared.Verdict.the-variants.{Refused, Passed}
 
@@ -32,6 +33,8 @@ pub record Shape : Type 0 where
   -- 72: the most lines that are read, and the most cents that one record says of an amount
   pub mostLines : ℕ
   pub mostCents : ℕ
+  -- the most records of a file that stand under an E and are no S
+  pub mostOthers : ℕ
   -- 72: clauses of the format's own, by the length of the id table, the ids in use, whether an E is open, the file's numbers and the open E's
   pub unfitMore : ℕ → ℕ → Bool → Totals → Open → Bool
   -- 72: whether the quarter that a file reports is none that the format allows, by where the walk stands, what it was opened with, and that quarter
@@ -58,7 +61,7 @@ abbrev pub judgedBy : Verdict → Judged
 judgedBy (Refused column reason) = refusal column (numberOf reason)
 judgedBy (Passed taken said) = passed taken said
 
--- What a record asks: an E whether its FEIN stands on an earlier E, an S whether its identity number stands under the open E; other records ask nothing.
+-- What a record asks: an E, in a format where a FEIN may stand on one alone, whether its FEIN stands on an earlier E, an S whether its identity number stands under the open E; other records ask nothing.
 abbrev pub asksNothing : Asking
 asksNothing = record { asks = false; number = 0 }
 
@@ -67,10 +70,11 @@ asksFor number = record { asks = true; number = number }
 
 abbrev pub feinAsked : Said → Asking
 feinAsked (OfA quarter) = asksNothing
-feinAsked (OfE employer) = asksFor (employer .fein)
+feinAsked (OfE employer) = if employer .once then asksFor (employer .fein) else asksNothing
 feinAsked (OfS employee) = asksNothing
 feinAsked OfT = asksNothing
 feinAsked OfF = asksNothing
+feinAsked (OfNote note) = asksNothing
 feinAsked OfNone = asksNothing
 
 abbrev pub idAsked : Said → Asking
@@ -79,6 +83,7 @@ idAsked (OfE employer) = asksNothing
 idAsked (OfS employee) = asksFor (employee .id)
 idAsked OfT = asksNothing
 idAsked OfF = asksNothing
+idAsked (OfNote note) = asksNothing
 idAsked OfNone = asksNothing
 
 abbrev answered : Asking → (ℕ → Bool) → Bool

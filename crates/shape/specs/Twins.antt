@@ -7,25 +7,12 @@ use lib.Dec.{eqb}
 use lib.ListN.{getD}
 use Rattle.laws.specs.Finding.{fine}
 use Rattle.chars.specs.Characters.{isPermitted}
-use Rattle.edits.specs.Counted.{openButSums, totalsButSums}
+use Rattle.edits.specs.Counted.{withoutSums}
 use Rattle.edits.specs.Edit.{firstBroken}
 use Rattle.edits.specs.declared.Context.{Context}
 use Rattle.edits.specs.declared.Seen.{Seen}
 use Rattle.shape.specs.Hidden.{ofEmployee, employeeIn}
 use Rattle.shape.specs.Shape.{Shape}
-
--- A context but for what is added up in it.
-abbrev pub withoutSums : Context → Context
-withoutSums here =
-    record {
-      phase = here .phase;
-      held = here .held;
-      filed = here .filed;
-      «open» = openButSums (here .open);
-      all = totalsButSums (here .all);
-      «ids_full» = here .«ids_full»;
-      «list_full» = here .«list_full»;
-    }
 
 -- The same characters in every column that is not hidden; and only permitted ones in those that are.
 abbrev pub Alike : (ℕ → Bool) → List ℕ → List ℕ → Type 0

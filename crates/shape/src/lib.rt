@@ -1,5 +1,7 @@
 // What the machine knows of a line, in every format: what its record says and asks, and the verdict
 // on it.
+pub mod head;
+
 use calendar::Quarter;
 use edits::Phase;
 use reason::Edit;
@@ -13,14 +15,22 @@ ghost use Rattle.shape.specs.Shape.{asksNothing};
 // The most S records of a file.
 pub const MOST_EMPLOYEES: u64 = 100000;
 
-// An E record: its FEIN, whether S records follow, and what its entry takes over: the flags of an
-// amended and of a final return, and the cease date, all 0 in a format that has none.
+// An E record: its FEIN, whether that may stand on no other E, whether S records follow; what its
+// entry takes over: the flags of an amended and of a final return, and the cease date; the account
+// number as two numbers to the base 256; and whether it tells the quarter that the file reports,
+// and that quarter. What a format has not is 0 or false.
 pub struct EmployerOn {
     pub fein: u64,
+    pub once: bool,
     pub follow: bool,
     pub amended: u64,
     pub final_return: u64,
     pub cease_date: u64,
+    pub account_head: u64,
+    pub account_tail: u64,
+    pub files: bool,
+    pub year: u64,
+    pub month: u64,
 }
 
 // An S record: the identity number, the wages in cents, and a second amount in cents, 0 in a format
@@ -31,6 +41,13 @@ pub struct EmployeeOn {
     pub second: u64,
 }
 
+// A record under an E that is no S: it changes neither the place nor the tables, and parts no E
+// from the S records under it.
+pub enum Note {
+    // A payment that was made.
+    Deposit,
+}
+
 // What a record says to the walk; a line of no record says nothing.
 pub enum Said {
     OfA(Quarter),
@@ -38,6 +55,7 @@ pub enum Said {
     OfS(EmployeeOn),
     OfT,
     OfF,
+    OfNote(Note),
     OfNone,
 }
 

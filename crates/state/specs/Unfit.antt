@@ -3,7 +3,8 @@ use Prim.Native.Nat.{ℕ, _*_}
 use mathlib.Core.Bool.{Bool, false, not, _&&_, _||_}
 use lib.Dec.{ltb, eqb}
 use Rattle.calendar.specs.declared.Quarter.{Quarter}
-use Rattle.edits.specs.Formats.{isKnown, mayOpen, isOfOpening}
+use Rattle.laws.specs.Choice.{if_then_else_}
+use Rattle.edits.specs.Formats.{isKnown, mayOpen}
 use Rattle.edits.specs.declared.Open.{Open}
 use Rattle.edits.specs.declared.Opening.{Opening}
 use Rattle.edits.specs.declared.Phase.{Phase}
@@ -36,9 +37,9 @@ isOpen accepted = false
 isOpen (refused notice) = false
 
 -- "A refusal from 1 to 63, or a later number for an edit of a record, .. After these and 70 the state keeps number and place": a number that a refusal leaves in
--- the state. An opening that is refused leaves its number with any format, the others are left by the edits of one that is known.
+-- the state. An opening leaves 70 with any format and 73 with a number that names none; the others are left by the edits of one that is known.
 unfoldable pub isLeft : Format → ℕ → Bool
-isLeft format number = isOfOpening number || isKnown format && shapeOf format .isLeft number
+isLeft format number = eqb number 70 || (if isKnown format then shapeOf format .isLeft number else eqb number 73)
 
 -- "in a walk not refused, the quarter held, or A's once A is read, is none that this paper allows"; likewise its format is one that is known.
 abbrev pub bothUnfit : Phase → Opening → Quarter → Bool

@@ -6,9 +6,10 @@ use native.Mathlib.Omega.{arith}
 use lib.Dec.{ltb, eqb}
 use borrow.Author.Tests.{le-ltb, ltb-false, ne-eqb, eqb-false, eqb-true}
 use Rattle.laws.specs.Choice.{if_then_else_}
+use Rattle.laws.specs.ChoiceLaws.{neither}
 use Rattle.reason.specs.ReasonNumbers.{Notice}
 use Rattle.calendar.specs.Quarters.{isAllowed}
-use Rattle.edits.specs.Formats.{isKnown, quarterHeld, openingNumber, isOfOpening}
+use Rattle.edits.specs.Formats.{isKnown, quarterHeld, mayOpen, openingNumber, isOfOpening}
 use Rattle.edits.specs.declared.Open.{Open}
 use Rattle.edits.specs.declared.Opening.{Opening}
 use Rattle.edits.specs.declared.Totals.{Totals}
@@ -20,11 +21,6 @@ use Rattle.record.specs.Laws.{lawfulOf}
 use Rattle.tables.specs.Room.{Room, entriesUsed}
 use Rattle.state.specs.Unfit.{fileUnfit, openUnfit, isOpen, isLeft, standingUnfit, unfit}
 use Rattle.state.specs.Walks.{Walk, refusedWalk}
-
--- Of two tests of which none holds, neither holds.
-pub neither : (a b : Bool) → a || b ≡ false → (a ≡ false) × (b ≡ false)
-neither true b e = absurd (false≢true (sym e))
-neither false b e = (refl, e)
 
 module _ (s : Shape) where
   pub record FileSound (entries : ℕ) (all : Totals) (lines : ℕ) : Type 0 where
@@ -156,25 +152,30 @@ byEdit format number = shapeOf format .isLeft number
 
 pub left-number : (format : Format) (number : ℕ) → isKnown format ≡ true → byEdit format number ≡ true → isLeft format number ≡ true
 unfolding isLeft
-left-number format number known left = rw (known, left) (either (isOfOpening number)) where
+left-number format number known left = rw (known, left) (either (eqb number 70)) where
   either : (opening : Bool) → opening || true ≡ true
   either true = refl
   either false = refl
 
-pub left-opening : (held : Opening) → isLeft (held .format) (openingNumber held) ≡ true
-unfolding isLeft
-left-opening held = at (isAllowed (quarterHeld held)) where
-  at : (allowed : Bool) → isOfOpening (if allowed then 73 else 70) || isKnown (held .format) && byEdit (held .format) (if allowed then 73 else 70) ≡ true
-  at true = refl
-  at false = refl
+-- An opening that is refused leaves its own.
+pub left-opening : (held : Opening) → mayOpen held ≡ false → isLeft (held .format) (openingNumber held) ≡ true
+unfolding isLeft mayOpen
+left-opening held shut = at (isAllowed (quarterHeld held)) (isKnown (held .format)) shut where
+  at : (allowed known : Bool) → allowed && known ≡ false
+      → eqb (if allowed then 73 else 70) 70 || (if known then byEdit (held .format) (if allowed then 73 else 70) else eqb (if allowed then 73 else 70) 73) ≡ true
+  at true true shut = absurd (false≢true (sym shut))
+  at true false shut = refl
+  at false known shut = refl
 
 -- One that no edit leaves, and no opening, is none.
 pub not-left : (format : Format) (number : ℕ) → isOfOpening number ≡ false → byEdit format number ≡ false → isLeft format number ≡ true → ⊥
 unfolding isLeft
-not-left format number opening left e = false≢true (sym (rw (opening, left) (none (isKnown format))) ∙ e) where
-  none : (known : Bool) → known && false ≡ false
-  none true = refl
-  none false = refl
+not-left format number opening left e =
+    let none = neither (eqb number 70) (eqb number 73) opening in
+    false≢true (sym (rw (none .0, none .1, left) (by (isKnown format))) ∙ e) where
+      by : (known : Bool) → (if known then false else false) ≡ false
+      by true = refl
+      by false = refl
 
 pub left-not-72 : (format : Format) (number : ℕ) → isLeft format number ≡ true → number ≡ 72 → ⊥
 left-not-72 format number e same = not-left format number (rw same) (rw same (lawfulOf format .others-not-left .3)) e

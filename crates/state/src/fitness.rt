@@ -110,13 +110,13 @@ pub fn is_of_opening(number: u8) -> bool
 fn is_left(format: Format, number: u8) -> bool
     ensures { λ r. ⌜ r ≡ isLeft format number ⌝ }
 {
-    if is_of_opening(number) {
+    if number == 70 {
         return true;
     }
     if format::is_known(format) {
         return record::is_left(format, number);
     }
-    false
+    number == 73
 }
 
 fn phase_unfit(phase: Phase, held: Opening, filed: Quarter) -> bool

@@ -20,7 +20,7 @@ use Rattle.shape.specs.Shape.{Judged, refusal, passed}
 use Rattle.record.specs.Judge.{judge, seenOn}
 use Rattle.shape.specs.EndOfInput.{endEdits}
 use Rattle.shape.specs.declared.Said.{Said}
-use Rattle.shape.specs.declared.Said.the-variants.{OfA, OfE, OfS, OfT, OfF, OfNone}
+use Rattle.shape.specs.declared.Said.the-variants.{OfA, OfE, OfS, OfT, OfF, OfNote, OfNone}
 use Rattle.tables.specs.Room.{Room, entriesUsed}
 use Rattle.shape.specs.After.{phaseAfter, filedAfter, openAfter, entryAtE, usedAfter, totalsAfter}
 use Rattle.state.specs.Unfit.{unfit}
@@ -108,6 +108,7 @@ changeBy (OfE employer) walk = Opens (walk .all .employers) (entryAtE employer)
 changeBy (OfS employee) walk = if eqb (employee .id) 0 then Nothing else Adds (walk .used) (employee .id)
 changeBy OfT walk = Closes (walk .used) (walk .all .employers - 1) (walk .open .count) (walk .open .sum)
 changeBy OfF walk = Nothing
+changeBy (OfNote note) walk = Nothing
 changeBy OfNone walk = Nothing
 
 abbrev pub goesOn : Walk → ℕ → Said → Moved

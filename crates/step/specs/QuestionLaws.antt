@@ -13,7 +13,7 @@ use Rattle.edits.specs.declared.format.Format.{Format}
 use Rattle.shape.specs.Fits.{Bounded}
 use Rattle.shape.specs.Shape.{Shape, idAsked}
 use Rattle.shape.specs.declared.Said.{Said}
-use Rattle.shape.specs.declared.Said.the-variants.{OfA, OfE, OfS, OfT, OfF, OfNone}
+use Rattle.shape.specs.declared.Said.the-variants.{OfA, OfE, OfS, OfT, OfF, OfNote, OfNone}
 use Rattle.record.specs.ShapeOf.{shapeOf}
 use Rattle.record.specs.Judge.{seenOn}
 use Rattle.record.specs.Laws.{asked-of-bytes, lawfulOf}
@@ -34,6 +34,7 @@ id-small s (OfE employer) bounded = omega arith
 id-small s (OfS employee) bounded = bounded .0
 id-small s OfT bounded = omega arith
 id-small s OfF bounded = omega arith
+id-small s (OfNote note) bounded = omega arith
 id-small s OfNone bounded = omega arith
 
 pub asked-small : (format : Format) (bytes : List ℕ) → idAskedBy format bytes .number < 1000000000

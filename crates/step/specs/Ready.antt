@@ -5,7 +5,7 @@ use mathlib.Core.Path.{_≡_}
 use Rattle.shape.specs.Limits.{mostEmployees, mostFein}
 use Rattle.shape.specs.declared.EmployeeOn.{EmployeeOn}
 use Rattle.shape.specs.declared.Said.{Said}
-use Rattle.shape.specs.declared.Said.the-variants.{OfA, OfE, OfS, OfT, OfF, OfNone}
+use Rattle.shape.specs.declared.Said.the-variants.{OfA, OfE, OfS, OfT, OfF, OfNote, OfNone}
 use Rattle.tables.specs.Room.{mostEmployers}
 use Rattle.state.specs.Walks.{Walk}
 
@@ -25,6 +25,7 @@ ReadyFor walk (OfE employer) = walk .all .employers ≤ mostEmployers
 ReadyFor walk (OfS employee) = ReadyS walk employee
 ReadyFor walk OfT = 1 ≤ walk .all .employers
 ReadyFor walk OfF = Unit {0}
+ReadyFor walk (OfNote note) = walk .all .others + 1 < 2 ^ 64
 ReadyFor walk OfNone = Unit {0}
 
 abbrev pub Ready : Walk → Said → Type 0

@@ -16,7 +16,7 @@ use Rattle.shape.specs.Limits.{mostEmployees}
 use Rattle.shape.specs.Shape.{Shape, passed}
 use Rattle.shape.specs.declared.EmployeeOn.{EmployeeOn}
 use Rattle.shape.specs.declared.Said.{Said}
-use Rattle.shape.specs.declared.Said.the-variants.{OfA, OfE, OfS, OfT, OfF, OfNone}
+use Rattle.shape.specs.declared.Said.the-variants.{OfA, OfE, OfS, OfT, OfF, OfNote, OfNone}
 use Rattle.record.specs.ShapeOf.{shapeOf}
 use Rattle.record.specs.Judge.{recordOn, judge}
 use Rattle.record.specs.Laws.{judged-size, judged-fits, judged-bounded, lawfulOf}
@@ -49,7 +49,7 @@ module _ (room : Room) (walk : Walk) (phase : Phase) (stands : walk .standing �
   under-E : phase ≡ EOpen → OpenSound s (walk .all) (walk .open)
   under-E e = fit-open room walk fit (is-open e)
 
-  ready-S : room .ids < 2 ^ 64 → (employee : EmployeeOn) → Fits (contextOf room walk phase) (OfS employee) → Bounded s (OfS employee)
+  ready-S : room .ids < 2 ^ 64 → (employee : EmployeeOn) → Fits s (contextOf room walk phase) (OfS employee) → Bounded s (OfS employee)
       → SecondFits (walk .all) (walk .open) (OfS employee) → ReadyS walk employee
   ready-S short employee fits bounded second =
       let file = fit-file room walk fit in
@@ -67,13 +67,15 @@ module _ (room : Room) (walk : Walk) (phase : Phase) (stands : walk .standing �
         ];
       }
 
-  ready-for : room .ids < 2 ^ 64 → (said : Said) → Fits (contextOf room walk phase) said → Bounded s said
+  ready-for : room .ids < 2 ^ 64 → (said : Said) → Fits s (contextOf room walk phase) said → Bounded s said
       → (phase ≡ EOpen → SecondFits (walk .all) (walk .open) said) → ReadyFor walk said
   ready-for short (OfA quarter) fits bounded second = tt
   ready-for short (OfE employer) fits bounded second = below-most _ (room .list) (leb-false _ _ (fits .1))
   ready-for short (OfS employee) fits bounded second = ready-S short employee fits bounded (second (fits .0))
   ready-for short OfT fits bounded second = under-E fits .some
   ready-for short OfF fits bounded second = tt
+  ready-for short (OfNote note) fits bounded second =
+      omega (arith, fits .1, lawfulOf (walk .held .format) .lines-allowed, lawfulOf (walk .held .format) .lines-small)
   ready-for short OfNone fits bounded second = tt
 
   -- Under an E no second sum wraps, whatever stands on a line.

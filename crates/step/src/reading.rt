@@ -13,6 +13,7 @@ use edits::Totals;
 use reason::Reason;
 use shape::EmployeeOn;
 use shape::EmployerOn;
+use shape::Note;
 use shape::Said;
 use shape::Verdict;
 use state::Stage;
@@ -23,7 +24,7 @@ ghost use Prim.Native.Nat.{_<_};
 ghost use mathlib.Core.Bool.{false};
 ghost use mathlib.Core.Path.{_≡_};
 ghost use Rattle.lines.specs.Lines.{firstLine};
-ghost use Rattle.shape.specs.After.{entryAtE, withOne, oneEmployee};
+ghost use Rattle.shape.specs.After.{filedAfter, entryAtE, withOne, oneEmployee};
 ghost use Rattle.state.specs.Unfit.{unfit};
 ghost use Rattle.state.specs.Walks.{reading, walkOf};
 ghost use Rattle.step.specs.Moves.{movedBy, allWell, after as afterOf, goesOn, contextOf, byStanding, lineSeen};
@@ -82,6 +83,19 @@ fn entry_at_e(e: EmployerOn) -> Employer
     }
 }
 
+// The quarter that the file reports, after E.
+fn filed_after(e: EmployerOn, filed: Quarter) -> Quarter
+    ensures { λ r. ⌜ r ≡ filedAfter (Said.OfE e) filed ⌝ }
+{
+    if e.files {
+        return Quarter {
+            year: e.year,
+            month: e.month,
+        };
+    }
+    filed
+}
+
 // E
 fn employer(st: State, taken: usize, e: EmployerOn) -> Move
     requires { ⌜ Ready (walkOf st) (Said.OfE e) ⌝ }
@@ -97,8 +111,8 @@ fn employer(st: State, taken: usize, e: EmployerOn) -> Move
         others: 0,
         nearest: 0,
         noted: false,
-        account_head: 0,
-        account_tail: 0,
+        account_head: e.account_head,
+        account_tail: e.account_tail,
     };
     let totals = Totals {
         count: all.count,
@@ -108,7 +122,8 @@ fn employer(st: State, taken: usize, e: EmployerOn) -> Move
         others: all.others,
         notes: all.notes,
     };
-    let next = after(st, Phase::EOpen, st.filed, open, totals, 0);
+    let filed = filed_after(e, st.filed);
+    let next = after(st, Phase::EOpen, filed, open, totals, 0);
     let begun = Change::Opens(all.employers as usize, entry_at_e(e));
     moves(next, taken, begun)
 }
@@ -183,6 +198,26 @@ fn last(st: State, taken: usize) -> Move
     moves(next, taken, Change::Nothing)
 }
 
+// A record under an E that is no S.
+fn noted(st: State, taken: usize, note: Note) -> Move
+    requires { ⌜ Ready (walkOf st) (Said.OfNote note) ⌝ }
+    ensures { λ r. ⌜ movedBy r ≡ goesOn (walkOf st) taken (Said.OfNote note) ⌝ }
+{
+    let all = st.all;
+    let totals = Totals {
+        count: all.count,
+        employers: all.employers,
+        sum: all.sum,
+        second: all.second,
+        others: all.others + 1,
+        notes: all.notes,
+    };
+    let stage = st.stage;
+    let phase = state::phase_of(stage);
+    let next = after(st, phase, st.filed, st.open, totals, st.used);
+    moves(next, taken, Change::Nothing)
+}
+
 // A line of no record. It never passes.
 fn no_record(st: State, taken: usize) -> Move
     requires { ⌜ Ready (walkOf st) Said.OfNone ⌝ }
@@ -206,6 +241,7 @@ fn go_on(st: State, taken: usize, said: Said) -> Move
         Said::OfS(s) => employee(st, taken, s),
         Said::OfT => total(st, taken),
         Said::OfF => last(st, taken),
+        Said::OfNote(note) => noted(st, taken, note),
         Said::OfNone => no_record(st, taken),
     }
 }

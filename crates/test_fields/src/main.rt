@@ -126,8 +126,12 @@ fn run_case(s: &[u8]) {
     let a = read_small(s, 3, 5);
     let b = read_small(s, 6, 8);
     let text = &s[8..];
-    if test < 20 {
+    if test < 19 {
         print_edit(class::class_edit(class::class_of(test), text, a, b));
+        return;
+    }
+    if 60 <= test {
+        print_edit(class::class_edit(class::class_of(test - 60 + 19), text, a, b));
         return;
     }
     if test < 30 {

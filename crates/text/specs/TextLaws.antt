@@ -1,6 +1,6 @@
 -- Laws: what later layers cite of text, of patterns and of addresses.
 use Prim.Native.Nat.{ℕ, _+_, _-_, _<_, _≤_, zero, suc}
-use mathlib.Core.Path.{_≡_, refl, sym, ap, _∙_}
+use mathlib.Core.Path.{_≡_, refl, sym, ap, ap₂, _∙_}
 use mathlib.Core.Bool.{Bool, true, false, not, _||_}
 use mathlib.Core.List.{List, [], _∷_}
 use native.Mathlib.Nat.{add-zero, not-suc-le-zero}
@@ -14,14 +14,16 @@ use Rattle.laws.specs.Choice.{if_then_else_}
 use Rattle.laws.specs.ChoiceLaws.{both-hold}
 use Rattle.laws.specs.Finding.{Finding, fine, broken, orElse}
 use Rattle.laws.specs.Labelled.{Labelled, fine-labelled}
+use Rattle.laws.specs.Spelling.{bytes}
+use Rattle.codes.specs.Codes.{regionOf}
 use Rattle.codes.specs.declared.Region.{Region}
 use Rattle.codes.specs.declared.Region.the-variants.{State, Province, Unknown}
-use Rattle.chars.specs.Agree.{Agree, agree-from}
+use Rattle.chars.specs.Agree.{Agree, agree-from, every-alike}
 use Rattle.chars.specs.Characters.{isBlank}
 use Rattle.chars.specs.Columns.{allowedTest, everyColumn, isFine, unless}
 use Rattle.chars.specs.ColumnLaws.{column-says, unless-labelled, fine-columns, columns-fine, blank-column}
 use Rattle.chars.specs.declared.columns.Allowed.the-variants.{Blanks}
-use Rattle.text.specs.Address.{stateTest, zipTest, extensionTest}
+use Rattle.text.specs.Address.{regionIn, stateTest, zipTest, extensionTest}
 use Rattle.text.specs.Text.{allBlank, isIndented, textTest, requiredText, optionalText, isAsked, readsAs, hasPattern, entityTest}
 
 -- ---- a pattern from the symbol i on
@@ -55,6 +57,32 @@ pub pattern-alike : (pattern u v : List ℕ) (first : ℕ) → Agree u v first (
 unfolding hasPattern
 pattern-alike pattern u v first agree =
     reads-alike pattern (drop (first - 1) u) (drop (first - 1) v) (agree-from u v first (length pattern) agree)
+
+-- ---- a text, a state, a ZIP and its extension likewise
+pub blank-alike : (u v : List ℕ) (first last : ℕ) → Agree u v first last → allBlank u first last ≡ allBlank v first last
+unfolding allBlank
+blank-alike u v first last agree = ap isFine (every-alike Blanks u v first last agree)
+
+pub indented-alike : (u v : List ℕ) (first : ℕ) → Agree u v first (first - 1 + 1) → isIndented u first ≡ isIndented v first
+unfolding isIndented
+indented-alike u v first agree = ap isBlank (agree (first - 1) (omega arith) (omega arith))
+
+pub region-alike : (u v : List ℕ) (first : ℕ) → Agree u v first (first - 1 + 2) → regionIn u first ≡ regionIn v first
+region-alike u v first agree =
+    ap₂ regionOf (agree (first - 1) (omega arith) (omega arith)) (agree (first - 1 + 1) (omega arith) (omega arith))
+
+pub zip-alike : (region : Region) (u v : List ℕ) (first : ℕ) → Agree u v first (first - 1 + 5) → zipTest region u first ≡ zipTest region v first
+unfolding bytes
+zip-alike State u v first agree = rw (pattern-alike (bytes "ddddd") u v first agree)
+zip-alike Province u v first agree = rw (pattern-alike (bytes "ldl d") u v first agree)
+zip-alike Unknown u v first agree = refl
+
+pub extension-alike : (region : Region) (u v : List ℕ) (first : ℕ) → Agree u v first (first - 1 + 5) → extensionTest region u first ≡ extensionTest region v first
+unfolding bytes
+extension-alike State u v first agree =
+    rw (pattern-alike (bytes "     ") u v first agree, pattern-alike (bytes "-dddd") u v first agree)
+extension-alike Province u v first agree = rw (pattern-alike (bytes "ld   ") u v first agree)
+extension-alike Unknown u v first agree = refl
 
 -- ---- a pattern whose characters stand for themselves
 -- None of them is a small letter, so none is d or l.

@@ -34,8 +34,8 @@ one-by-one n (a ∷ b ∷ c ∷ []) = refl
 one-by-one n (a ∷ b ∷ c ∷ d ∷ rest) = rw (take-nil (length rest))
 
 -- A refused writing has written nothing.
-pub none-written : (wrote : Wrote) (refusal : Refusal) → wrote ≡ Refused refusal → numbers (noticeOf refusal) 0 ≡ writtenNumbers (noticeIn wrote)
-none-written wrote refusal is = rw (is, ne-eqb (numberOf (refusal .reason)) 0 (never-zero (refusal .reason)))
+pub none-written : (size : ℕ) (wrote : Wrote) (refusal : Refusal) → wrote ≡ Refused refusal → numbers (noticeOf refusal) 0 ≡ writtenNumbers size (noticeIn wrote)
+none-written size wrote refusal is = rw (is, ne-eqb (numberOf (refusal .reason)) 0 (never-zero (refusal .reason)))
 
 -- ---- the calls of the walk
 module _ (out : Out) (words answer : List ℕ) (n : Numbers) (number : ℕ) (after : List ℕ) (is-n : n ≡ numbers (out .says) (out .taken)) (told : Told n number answer after) where
@@ -80,10 +80,10 @@ module _ (number : ℕ) (out answer after : List ℕ) where
   has-filled : (n : Numbers) → Told n number answer after → fills ≡ filled n out answer
   has-filled n told = rw (told .0, told .1)
 
-  pub has-record : (wrote : Wrote) (w : Writing) (n : Numbers) → n ≡ writtenNumbers (noticeIn wrote) → writtenBy wrote out ≡ w → Told n number answer after
-      → fills ≡ filledRecord w answer
-  has-record wrote w n is-n is-w told =
-      has-filled n told ∙ ap (λ (m : Numbers). filled m out answer) is-n ∙ ap (λ (x : Writing). filledRecord x answer) is-w
+  pub has-record : (size : ℕ) (wrote : Wrote) (w : Writing) (n : Numbers) → n ≡ writtenNumbers size (noticeIn wrote) → writtenBy wrote out ≡ w
+      → Told n number answer after → fills ≡ filledRecord size w answer
+  has-record size wrote w n is-n is-w told =
+      has-filled n told ∙ ap (λ (m : Numbers). filled m out answer) is-n ∙ ap (λ (x : Writing). filledRecord size x answer) is-w
 
   pub has-framing : (framed : Framed) (f : Framing) → framedBy framed out ≡ f → Told (framingNumbers (framedNumbers framed)) number answer after
       → fills ≡ filledFraming f answer

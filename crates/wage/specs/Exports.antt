@@ -22,6 +22,7 @@ use Rattle.step.specs.Moves.{stays}
 use Rattle.step.specs.Steps.{Out, carried, openStep, lineStep, endStep}
 use Rattle.state_words.specs.Words.{wordCount, putWords, walkIn}
 use Rattle.write.specs.Writing.{Writing, totalWriting, finalWriting}
+use Rattle.wham_write.specs.Writing as wham
 use Rattle.build.specs.Building.{building}
 use Rattle.build.specs.Values.{textIn}
 use Rattle.walk.specs.Calls.{wholeFile}
@@ -116,23 +117,30 @@ pub record Filled : Type 0 where
 abbrev pub filled : Numbers → List ℕ → List ℕ → Filled
 filled n out answer = record { number = n .number; out = out; answer = answered n answer }
 
--- A record of 290 bytes is written, or nothing.
-abbrev pub writtenNumbers : Notice → Numbers
-writtenNumbers says = numbers says (if eqb (says .number) 0 then 290 else 0)
+-- A record of so many bytes is written, or nothing.
+abbrev pub writtenNumbers : ℕ → Notice → Numbers
+writtenNumbers size says = numbers says (if eqb (says .number) 0 then size else 0)
 
-abbrev pub filledRecord : Writing → List ℕ → Filled
-filledRecord w answer = filled (writtenNumbers (w .says)) (w .out) answer
+abbrev pub filledRecord : ℕ → Writing → List ℕ → Filled
+filledRecord size w answer = filled (writtenNumbers size (w .says)) (w .out) answer
 
 abbrev pub filledT : List ℕ → List ℕ → List ℕ → Filled
-filledT words out answer = filledRecord (totalWriting (walkIn words) out) answer
+filledT words out answer = filledRecord 290 (totalWriting (walkIn words) out) answer
 
 abbrev pub filledF : List ℕ → List ℕ → List ℕ → Filled
-filledF words out answer = filledRecord (finalWriting (walkIn words) out) answer
+filledF words out answer = filledRecord 290 (finalWriting (walkIn words) out) answer
+
+-- The same of an amended withholding file, with the payments and the total of all employees.
+abbrev pub filledWhamT : ℕ → ℕ → List ℕ → List ℕ → List ℕ → Filled
+filledWhamT payments total words out answer = filledRecord 275 (wham.totalWriting (walkIn words) payments total out) answer
+
+abbrev pub filledWhamF : List ℕ → List ℕ → List ℕ → Filled
+filledWhamF words out answer = filledRecord 275 (wham.finalWriting (walkIn words) out) answer
 
 -- ---- the calls that build a record
 -- The record that a letter names, from its values and texts.
 abbrev pub filledBuilt : ℕ → List ℕ → List ℕ → List ℕ → List ℕ → Filled
-filledBuilt letter values texts out answer = filledRecord (building letter values texts out) answer
+filledBuilt letter values texts out answer = filledRecord 290 (building letter values texts out) answer
 
 -- ---- the calls that read a field
 -- Field k, counted from 0, of the record that a letter names; there is none past the last, nor for another letter.

@@ -42,7 +42,7 @@ use Rattle.step.specs.Moves.{Moved, again, contextOf, byVerdict, byStanding, en
 use Rattle.step.specs.Steps.{Out, carried, listedFein, listedId, openStep, lineStep, endStep}
 use Rattle.walk.specs.Calls.{wholeFile}
 use Rattle.wage.specs.ExportLaws.{has-place}
-use Rattle.wage.specs.Exports.{numbers, answered, Called, called, Opened, isStill, stateAfter, Continued, placed, openThrough, lineThrough, endThrough, wholeThrough, Filled, filledRecord, filledT, filledF, filledFraming, filledFrames}
+use Rattle.wage.specs.Exports.{numbers, answered, Called, called, Opened, isStill, stateAfter, Continued, placed, openThrough, lineThrough, endThrough, wholeThrough, Filled, filledRecord, filledT, filledF, filledWhamT, filledWhamF, filledFraming, filledFrames}
 use Rattle.wage.specs.CallsFollow.{Follows, LineCall, InRow, AllFollow}
 
 -- ---- one call
@@ -190,15 +190,21 @@ module _ (words out answer : List ℕ) (unknown : Unknown words) where
   abbrev unfitFill : Filled
   unfitFill = record { number = 72; out = out; answer = answered (numbers (notice 72 0 0) 0) answer }
 
-  unfit-record : (long next none large : Bool) (line : List ℕ)
-      → filledRecord (writing (refusalOf (unfit (noTables (walkIn words)) (walkIn words)) long next none large) line out) answer ≡ unfitFill
-  unfit-record long next none large line = rw (unknown-unfit (noTables (walkIn words)) words unknown, unfit-first long next none large)
+  unfit-record : (size : ℕ) (long next none large : Bool) (line : List ℕ)
+      → filledRecord size (writing (refusalOf (unfit (noTables (walkIn words)) (walkIn words)) long next none large) line out) answer ≡ unfitFill
+  unfit-record size long next none large line = rw (unknown-unfit (noTables (walkIn words)) words unknown, unfit-first long next none large)
 
   pub unknown-T : filledT words out answer ≡ unfitFill
-  unknown-T = unfit-record _ _ _ _ _
+  unknown-T = unfit-record 290 _ _ _ _ _
 
   pub unknown-F : filledF words out answer ≡ unfitFill
-  unknown-F = unfit-record _ _ _ _ _
+  unknown-F = unfit-record 290 _ _ _ _ _
+
+  pub unknown-wham-T : (payments total : ℕ) → filledWhamT payments total words out answer ≡ unfitFill
+  unknown-wham-T payments total = unfit-record 275 _ _ _ _ _
+
+  pub unknown-wham-F : filledWhamF words out answer ≡ unfitFill
+  unknown-wham-F = unfit-record 275 _ _ _ _ _
 
   pub unknown-frames : (list : List Employer) → filledFrames words list out answer ≡ unfitFill
   unknown-frames list =

@@ -1,5 +1,5 @@
 // The library for integrators: the calls of the walk, the writing of T and F, the building of A, E
-// and S and the reading of their fields, and the frames, over numbers and slices. C sees a slice as
+// and S of PFML and the reading of their fields, and the frames, over numbers and slices. C sees a slice as
 // its pointer and its length. The caller keeps the state of a walk as words.
 use build::read;
 use edits::Opening;
@@ -20,7 +20,7 @@ ghost use Rattle.step.specs.Moves.{noticeIn, takenIn};
 ghost use Rattle.step.specs.Steps.{outOf};
 ghost use Rattle.write.specs.Writing.{noticeIn as noticeOn};
 ghost use Rattle.frames.specs.Frames.{framedNumbers};
-ghost use Rattle.wage.specs.Exports.{numbers, Told, Opened, isStill, Continued, abiVersion, openingOf, openThrough, lineThrough, endThrough, wholeThrough, writtenNumbers, filledT, filledF, filledBuilt, fieldFirst, fieldReading, fieldLength, readNumbers, readField, framingNumbers, filledFrames};
+ghost use Rattle.wage.specs.Exports.{numbers, Told, Opened, isStill, Continued, abiVersion, openingOf, openThrough, lineThrough, endThrough, wholeThrough, writtenNumbers, filledT, filledF, filledWhamT, filledWhamF, filledBuilt, fieldFirst, fieldReading, fieldLength, readNumbers, readField, framingNumbers, filledFrames};
 
 // What a call answers: the paper's number, line and column, and a count of bytes, or the number
 // that a field holds.
@@ -97,11 +97,12 @@ fn reply_numbers(reply: Reply) -> Numbers
     }
 }
 
-fn wrote_numbers(wrote: Wrote) -> Numbers
-    ensures { λ r. ⌜ r ≡ writtenNumbers (noticeOn wrote) ⌝ }
+// A record of so many bytes.
+fn wrote_numbers(size: u16, wrote: Wrote) -> Numbers
+    ensures { λ r. ⌜ r ≡ writtenNumbers size (noticeOn wrote) ⌝ }
 {
     match wrote {
-        Wrote::Record => fine(pfml_fields::RECORD as u64),
+        Wrote::Record => fine(size as u64),
         Wrote::Refused(refusal) => refused(refusal),
     }
 }
@@ -274,7 +275,7 @@ pub extern "C" fn wage_write_t(state: &[u64], out: &mut [u8], answer: &mut [u64]
 {
     let st = state_words::state_in(state);
     let wrote = write::write_t(st, out);
-    tell_numbers(wrote_numbers(wrote), answer)
+    tell_numbers(wrote_numbers(pfml_fields::RECORD, wrote), answer)
 }
 
 // The F record that the walk accepts next.
@@ -284,7 +285,34 @@ pub extern "C" fn wage_write_f(state: &[u64], out: &mut [u8], answer: &mut [u64]
 {
     let st = state_words::state_in(state);
     let wrote = write::write_f(st, out);
-    tell_numbers(wrote_numbers(wrote), answer)
+    tell_numbers(wrote_numbers(pfml_fields::RECORD, wrote), answer)
+}
+
+// The T record of an amended withholding file that the walk accepts next, with the payments in
+// cents; the total of all employees is read in edition 2020 alone.
+#[no_mangle]
+pub extern "C" fn wage_wham_write_t(
+    state: &[u64],
+    payments: u64,
+    total: u64,
+    out: &mut [u8],
+    answer: &mut [u64],
+) -> u64
+    ensures { λ r. ⌜ record { number = r; out = now (out .exit); answer = now (answer .exit) } ≡ filledWhamT payments total (now (state .entry)) (now (out .entry)) (now (answer .entry)) ⌝ }
+{
+    let st = state_words::state_in(state);
+    let wrote = wham_write::write_t(st, payments, total, out);
+    tell_numbers(wrote_numbers(wham_fields::RECORD, wrote), answer)
+}
+
+// The F record of such a file.
+#[no_mangle]
+pub extern "C" fn wage_wham_write_f(state: &[u64], out: &mut [u8], answer: &mut [u64]) -> u64
+    ensures { λ r. ⌜ record { number = r; out = now (out .exit); answer = now (answer .exit) } ≡ filledWhamF (now (state .entry)) (now (out .entry)) (now (answer .entry)) ⌝ }
+{
+    let st = state_words::state_in(state);
+    let wrote = wham_write::write_f(st, out);
+    tell_numbers(wrote_numbers(wham_fields::RECORD, wrote), answer)
 }
 
 // ---- the calls that build a record
@@ -299,7 +327,7 @@ pub extern "C" fn wage_build_a(
     ensures { λ r. ⌜ record { number = r; out = now (out .exit); answer = now (answer .exit) } ≡ filledBuilt 65 (now (values .entry)) (now (texts .entry)) (now (out .entry)) (now (answer .entry)) ⌝ }
 {
     let wrote = build::build_a(values, texts, out);
-    tell_numbers(wrote_numbers(wrote), answer)
+    tell_numbers(wrote_numbers(pfml_fields::RECORD, wrote), answer)
 }
 
 // E, an employer.
@@ -313,7 +341,7 @@ pub extern "C" fn wage_build_e(
     ensures { λ r. ⌜ record { number = r; out = now (out .exit); answer = now (answer .exit) } ≡ filledBuilt 69 (now (values .entry)) (now (texts .entry)) (now (out .entry)) (now (answer .entry)) ⌝ }
 {
     let wrote = build::build_e(values, texts, out);
-    tell_numbers(wrote_numbers(wrote), answer)
+    tell_numbers(wrote_numbers(pfml_fields::RECORD, wrote), answer)
 }
 
 // S, an employee.
@@ -327,7 +355,7 @@ pub extern "C" fn wage_build_s(
     ensures { λ r. ⌜ record { number = r; out = now (out .exit); answer = now (answer .exit) } ≡ filledBuilt 83 (now (values .entry)) (now (texts .entry)) (now (out .entry)) (now (answer .entry)) ⌝ }
 {
     let wrote = build::build_s(values, texts, out);
-    tell_numbers(wrote_numbers(wrote), answer)
+    tell_numbers(wrote_numbers(pfml_fields::RECORD, wrote), answer)
 }
 
 // ---- the calls that read a field

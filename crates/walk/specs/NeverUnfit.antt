@@ -210,7 +210,7 @@ opened-well held t = at (mayOpen held) refl where
   at true e =
       let opened = opened-at held t e in
       inl (record { allowed = e; p = []; good = good-none (roomOf t) held; walk = opened .0; left = opened .1 })
-  at false e = inr (inr (record { says = openingNotice held; number = left-opening held; walk = rw (open-refused held e); left = rw (open-refused held e) }))
+  at false e = inr (inr (record { says = openingNotice held; number = left-opening held e; walk = rw (open-refused held e); left = rw (open-refused held e) }))
 
 -- A walk from any opening, whatever its calls are lent, never answers 72 where the caller altered neither state nor tables.
 pub never-unfit : (held : Opening) (t : Tables) (calls : List Call) (call : Call) → callStep call (afterCalls calls (openStep held t)) .says .number ≡ 72 → ⊥

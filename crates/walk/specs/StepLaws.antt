@@ -13,11 +13,12 @@ use Rattle.laws.specs.Choice.{if_then_else_}
 use Rattle.edits.specs.declared.Opening.{Opening}
 use Rattle.edits.specs.declared.Phase.{Phase}
 use Rattle.edits.specs.declared.Phase.the-variants.{BeforeA, AfterA, EOpen, AfterT}
-use Rattle.shape.specs.Fits.{Fits}
+use Rattle.shape.specs.Fits.{EndsE, Fits}
 use Rattle.shape.specs.declared.EmployeeOn.{EmployeeOn}
 use Rattle.shape.specs.declared.EmployerOn.{EmployerOn}
+use Rattle.record.specs.ShapeOf.{shapeOf}
 use Rattle.shape.specs.declared.Said.{Said}
-use Rattle.shape.specs.declared.Said.the-variants.{OfA, OfE, OfS, OfT, OfF, OfNone}
+use Rattle.shape.specs.declared.Said.the-variants.{OfA, OfE, OfS, OfT, OfF, OfNote, OfNone}
 use Rattle.tables.specs.Last.{closed-padded}
 use Rattle.tables.specs.Pad.{pad}
 use Rattle.tables.specs.PadLaws.{pad-none, length-pad, take-pad, set-pad, wiped-pad}
@@ -61,6 +62,7 @@ used-after (OfE e) ids = refl
 used-after (OfS s) ids = one-used ids (s .id) (eqb (s .id) 0)
 used-after OfT ids = refl
 used-after OfF ids = refl
+used-after (OfNote note) ids = refl
 used-after OfNone ids = refl
 
 -- The walk takes the same steps.
@@ -78,27 +80,33 @@ ids-none (OfS s ∷ p) phase e none =
     absurd (omega arith)
 ids-none (OfT ∷ p) phase e none = refl
 ids-none (OfF ∷ p) phase e none = refl
+ids-none (OfNote note ∷ p) phase e none = ids-none p phase e none
 ids-none (OfNone ∷ p) phase e none = refl
-
-ids-before-e : (p : List Said) → (phaseIn p ≡ AfterA) ⊎ (phaseIn p ≡ AfterT) → idsUnder p ≡ []
-ids-before-e p (inl a) = ids-none p AfterA a refl
-ids-before-e p (inr t) = ids-none p AfterT t refl
 
 module _ (room : Room) (held : Opening) (p : List Said) (g : Good room held p) where
   abbrev filled : List ℕ → List Employer → Tables
   filled ids entries = tables (pad 0 (room .ids) ids) (pad noEmployer (room .list) entries)
 
+  -- Nor where an E has ended.
+  ids-ended : EndsE (phaseIn p) (openIn p .follow) → idsUnder p ≡ []
+  ids-ended (inl t) = ids-none p AfterT t refl
+  ids-ended (inr (e, none)) = g .none-follow none
+
+  ids-before-e : (phaseIn p ≡ AfterA) ⊎ EndsE (phaseIn p) (openIn p .follow) → idsUnder p ≡ []
+  ids-before-e (inl a) = ids-none p AfterA a refl
+  ids-before-e (inr ends) = ids-ended ends
+
   no-ids : (ids : List ℕ) (entries : List Employer) → ids ≡ [] → filled ids entries ≡ filled [] entries
   no-ids ids entries none = rw none
 
-  wrote-e : (e : EmployerOn) → Fits (contextAt room held p) (OfE e)
+  wrote-e : (e : EmployerOn) → Fits (shapeOf (held .format)) (contextAt room held p) (OfE e)
       → written (changeBy (OfE e) (walkAt held p)) (tablesAt room p) ≡ tablesAt room (OfE e ∷ p)
   wrote-e e fits =
       let less : totalsIn p .employers < entriesUsed room = leb-false (entriesUsed room) (totalsIn p .employers) (fits .1) in
       rw (set-pad noEmployer (room .list) (entriesIn p) (totalsIn p .employers) (entryAtE e) (entries-many p) (omega (arith, less)))
-      (no-ids (idsUnder p) (entriesIn (OfE e ∷ p)) (ids-before-e p (fits .0)))
+      (no-ids (idsUnder p) (entriesIn (OfE e ∷ p)) (ids-before-e (fits .0)))
 
-  wrote-s : (s : EmployeeOn) → Fits (contextAt room held p) (OfS s)
+  wrote-s : (s : EmployeeOn) → Fits (shapeOf (held .format)) (contextAt room held p) (OfS s)
       → written (changeBy (OfS s) (walkAt held p)) (tablesAt room p) ≡ tablesAt room (OfS s ∷ p)
   wrote-s s fits = at (eqb (s .id) 0) refl (fits .3) where
     at : (none : Bool) → eqb (s .id) 0 ≡ none → (s .id ≡ 0) ⊎ (leb (room .ids) (length (idsUnder p)) ≡ false)
@@ -121,11 +129,12 @@ module _ (room : Room) (held : Opening) (p : List Said) (g : Good room held p) w
       )
 
   -- What a record that passes writes is what the records with it leave.
-  pub wrote : (said : Said) → Fits (contextAt room held p) said
+  pub wrote : (said : Said) → Fits (shapeOf (held .format)) (contextAt room held p) said
       → written (changeBy said (walkAt held p)) (tablesAt room p) ≡ tablesAt room (said ∷ p)
   wrote (OfA quarter) fits = no-ids (idsUnder p) (entriesIn p) (ids-none p BeforeA fits refl)
   wrote (OfE e) fits = wrote-e e fits
   wrote (OfS s) fits = wrote-s s fits
   wrote OfT fits = wrote-t fits
-  wrote OfF fits = no-ids (idsUnder p) (entriesIn p) (ids-none p AfterT fits refl)
+  wrote OfF fits = no-ids (idsUnder p) (entriesIn p) (ids-ended fits)
+  wrote (OfNote note) fits = refl
   wrote OfNone fits = absurd fits

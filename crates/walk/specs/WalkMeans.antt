@@ -184,12 +184,12 @@ module _ (held : Opening) (t : Tables) where
   again-untouched : carried (again (openingNotice held) (refusedWalk (held .format) (openingNotice held))) t ≡ untouched
   again-untouched = rw (still (isAllowed (quarterHeld held)))
 
-  calls-untouched : (lend : ℕ → ℕ) (file : List ℕ) → calls lend 0 file (refusedWalk (held .format) (openingNotice held)) t ≡ untouched
+  calls-untouched : mayOpen held ≡ false → (lend : ℕ → ℕ) (file : List ℕ) → calls lend 0 file (refusedWalk (held .format) (openingNotice held)) t ≡ untouched
   unfolding calls
-  calls-untouched lend [] = again-end (held .format) (openingNotice held) (left-opening held) t ∙ again-untouched
-  calls-untouched lend (b ∷ rest) =
-      ap (next lend rest) (again-line (held .format) (openingNotice held) (left-opening held) (firstLine (take (lend (length (b ∷ rest))) (b ∷ rest))) t ∙ again-untouched)
-      ∙ again-end (held .format) (openingNotice held) (left-opening held) t ∙ again-untouched
+  calls-untouched shut lend [] = again-end (held .format) (openingNotice held) (left-opening held shut) t ∙ again-untouched
+  calls-untouched shut lend (b ∷ rest) =
+      ap (next lend rest) (again-line (held .format) (openingNotice held) (left-opening held shut) (firstLine (take (lend (length (b ∷ rest))) (b ∷ rest))) t ∙ again-untouched)
+      ∙ again-end (held .format) (openingNotice held) (left-opening held shut) t ∙ again-untouched
 
 -- ---- the theorem
 pub from-start : (room : Room) → tablesAt room [] ≡ zeroed room
@@ -202,4 +202,4 @@ walk-means held lend lending file t = at (mayOpen held) refl where
   at : (allowed : Bool) → mayOpen held ≡ allowed → walked lend held file t ≡ wholeFile held file t
   at true e =
       rw (open-allowed held e, e, ← from-start (roomOf t)) (walks-on (roomOf t) held e lend lending file 0 [] (good-none (roomOf t) held))
-  at false e = rw (open-refused held e, e) (calls-untouched held t lend file)
+  at false e = rw (open-refused held e, e) (calls-untouched held t e lend file)

@@ -1,12 +1,14 @@
 -- Laws: a line call that is answered by "accepted", and the record on the line: what the one tells of the other.
 use Prim.Native.Nat.{ℕ, _+_}
 use mathlib.Core.Bool.{true, false, false≢true}
+use mathlib.Core.List.{List}
 use mathlib.Core.Path.{_≡_, refl, sym, ap, _∙_}
 use native.Mathlib.Omega.{arith}
 use borrow.Author.Tests.{not-false}
 use Rattle.reason.specs.ReasonNumbers.{Notice}
 use Rattle.chars.specs.Characters.{capitals}
-use Rattle.lines.specs.Lines.{Line}
+use Rattle.lines.specs.Lines.{Line, firstLine}
+use Rattle.edits.specs.declared.Context.{Context}
 use Rattle.edits.specs.declared.Phase.{Phase}
 use Rattle.edits.specs.declared.Phase.the-variants.{BeforeA, AfterA, EOpen, AfterT, AfterF}
 use Rattle.edits.specs.declared.Seen.{Seen}
@@ -88,3 +90,16 @@ module _ (walk : Walk) (t : Tables) (fit : unfit (roomOf t) walk ≡ false) (lin
         let zero = ap (λ (n : Notice). n .number) (says-standing says (refused why) stands) in
         let left = ap (λ (s : Standing). standingUnfit s (walk .held) (walk .filed)) (sym stands) ∙ fit-standing (roomOf t) walk fit in
         absurd (left-not-0 (walk .held .format) (why .number) (not-false _ left) zero)
+
+-- ---- the line that a call accepts
+module _ (walk : Walk) (t : Tables) (fit : unfit (roomOf t) walk ≡ false) (s : List ℕ) (says : lineStep walk (firstLine s) t .says ≡ allWell) where
+  pub reads : Passing walk t (firstLine s)
+  reads = accepted-passing walk t fit (firstLine s) says
+
+  -- What it is judged by, and that it passes.
+  abbrev pub readingContext : Context
+  readingContext = contextOf (roomOf t) walk (reads .phase)
+
+  pub judged : (said : Said) → recordOn (walk .held .format) (firstLine s) ≡ said
+      → judge readingContext (asked walk t (firstLine s)) (firstLine s) ≡ passed (reads .taken) said
+  judged said is = reads .passes ∙ ap (passed (reads .taken)) is

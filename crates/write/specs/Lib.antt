@@ -3,6 +3,7 @@ pub mod Writing
 pub mod NextAccepted
 pub mod WritingLaws
 pub mod PartLaws
+pub mod PartEdits
 pub mod TotalFields
 pub mod Accepted
 pub mod Made

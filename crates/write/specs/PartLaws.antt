@@ -1,9 +1,10 @@
--- Laws: a record made of parts that tile its columns: each part stands in it, and no other line of 290 characters holds them all.
-use Prim.Native.Nat.{ℕ, _+_, _-_, _^_, _<_, _≤_}
-use mathlib.Core.Bool.{Bool, true, false, _&&_}
-use mathlib.Core.List.{List, [], _∷_}
+-- Laws: a record made of parts that tile its columns: each part stands in it, and no other line of its length holds them all.
+use Prim.Native.Nat.{ℕ, zero, suc, _+_, _-_, _^_, _<_, _≤_}
+use mathlib.Core.Bool.{Bool, true, false, _&&_, false≢true}
+use mathlib.Core.List.{List, [], _∷_, _++_}
 use mathlib.Core.Logic.{_⊎_, inl, inr}
 use mathlib.Core.Path.{_≡_, refl, sym, _∙_}
+use native.Mathlib.Nat.{not-suc-le-zero, le-of-suc-le-suc}
 use native.Mathlib.Omega.{arith}
 use lib.Dec.{T, eqb, leb, ltb}
 use lib.ListN.{length, getD, length-replicate, getD-replicate}
@@ -18,7 +19,7 @@ use Rattle.number.specs.NumberLaws.{number-below, read-back}
 use Rattle.number.specs.NumberColumnLaws.{put-number-length, put-number-elsewhere, same-digits, number-alike, number-digits}
 use Rattle.text.specs.Put.{blanks}
 use Rattle.text.specs.PutLaws.{put-text-length, put-text-elsewhere, put-text-at}
-use Rattle.write.specs.Records.{Part, text, number, blank, put, putAll, recordOf}
+use Rattle.write.specs.Records.{Part, text, number, blank, put, putAll, lineOf}
 
 -- The place where a part begins, and the one where it ends.
 abbrev begin : Part → ℕ
@@ -44,10 +45,10 @@ sound (text first t) = every isPlain 0 0 t
 sound (number first last v) = leb 1 first && leb first last && leb (widthOf first last) 19
 sound (blank first last) = true
 
--- Each part begins where the one before ended, the first at place `from`, and the last ends with the line.
-abbrev pub tiles : ℕ → List Part → Bool
-tiles from [] = eqb from 290
-tiles from (part ∷ parts) = eqb (begin part) from && leb from (end part) && sound part && tiles (end part) parts
+-- Each part begins where the one before ended, the first at place `from`, and the last ends with a line of n characters.
+abbrev pub tiles : ℕ → ℕ → List Part → Bool
+tiles n from [] = eqb from n
+tiles n from (part ∷ parts) = eqb (begin part) from && leb from (end part) && sound part && tiles n (end part) parts
 
 -- A number that its columns have room for.
 abbrev pub Fits : Part → Type 0
@@ -76,7 +77,21 @@ all-both : (P Q : Part → Type 0) (parts : List Part) → AllOf P parts → All
 all-both P Q [] p q = tt
 all-both P Q (part ∷ parts) p q = ((p .0, q .0), all-both P Q parts (p .1) (q .1))
 
+-- Of the parts of two lists, one after the other.
+pub all-join : (Q : Part → Type 0) (parts more : List Part) → AllOf Q parts → AllOf Q more → AllOf Q (parts ++ more)
+all-join Q [] more first rest = rest
+all-join Q (part ∷ parts) more first rest = (first .0, all-join Q parts more (first .1) rest)
+
+pub all-split : (Q : Part → Type 0) (parts more : List Part) → AllOf Q (parts ++ more) → AllOf Q parts × AllOf Q more
+all-split Q [] more all = (tt, all)
+all-split Q (part ∷ parts) more all = let rest = all-split Q parts more (all .1) in ((all .0, rest .0), rest .1)
+
 -- ---- one part
+past-end : (line : List ℕ) (k : ℕ) → length line ≤ k → getD line k 0 ≡ 0
+past-end [] k h = refl
+past-end (c ∷ line) zero h = absurd (not-suc-le-zero h)
+past-end (c ∷ line) (suc k) h = past-end line k (le-of-suc-le-suc h)
+
 record Wide (first last : ℕ) : Type 0 where
   one : 1 ≤ first
   some : first ≤ last
@@ -132,6 +147,10 @@ module _ (a b : List ℕ) where
       same-digits a b first last (omega (arith, w .some, w .one)) (w .short) v p q k low high
   holds-same (blank first last) s p q k low high = p k low high ∙ sym (q k low high)
 
+-- A part that stands in both lines, or all of whose columns are free.
+abbrev pub Shared : (ℕ → Bool) → List ℕ → List ℕ → Part → Type 0
+Shared free a b part = (Holds part a × Holds part b) ⊎ ((k : ℕ) → begin part ≤ k → k < end part → free (k + 1) ≡ true)
+
 holds-plain : (a : List ℕ) (part : Part) → T (sound part) → Holds part a → (k : ℕ) → begin part ≤ k → k < end part → Plain (getD a k 0)
 holds-plain a (text first t) s p k low high =
     let place : first - 1 + (k - (first - 1)) ≡ k = omega arith in
@@ -154,31 +173,10 @@ all-fit : (parts : List Part) (line : List ℕ) → AllHold parts line → AllFi
 all-fit [] line holds = tt
 all-fit (part ∷ parts) line holds = (holds-fit part line (holds .0), all-fit parts line (holds .1))
 
--- The first of parts that tile, and the others.
-record Tiled (from : ℕ) (part : Part) (parts : List Part) : Type 0 where
-  here : begin part ≡ from
-  forward : from ≤ end part
-  is-sound : T (sound part)
-  rest : T (tiles (end part) parts)
-
-tiled : (from : ℕ) (part : Part) (parts : List Part) → T (tiles from (part ∷ parts)) → Tiled from part parts
-tiled from part parts t =
-    let first = eqb (begin part) from in
-    let order = leb from (end part) in
-    let front = both-left (first && order && sound part) (tiles (end part) parts) t in
-    let columns = both-hold first order (is-true _ (both-left (first && order) (sound part) front)) in
-    record {
-      here = eqb-true (begin part) from (columns .0);
-      forward = leb-true from (end part) (columns .1);
-      is-sound = both-right (first && order) (sound part) front;
-      rest = both-right (first && order && sound part) (tiles (end part) parts) t;
-    }
-
-tiles-end : (from : ℕ) (parts : List Part) → T (tiles from parts) → from ≤ 290
-tiles-end from [] t = omega (arith, eqb-true from 290 (is-true _ t))
-tiles-end from (part ∷ parts) t =
-    let p = tiled from part parts t in
-    omega (arith, p .forward, tiles-end (end part) parts (p .rest))
+-- Parts that stand in both lines are shared.
+pub all-shared : (free : ℕ → Bool) (a b : List ℕ) (parts : List Part) → AllHold parts a → AllHold parts b → AllOf (Shared free a b) parts
+all-shared free a b [] p q = tt
+all-shared free a b (part ∷ parts) p q = (inl (p .0, q .0), all-shared free a b parts (p .1) (q .1))
 
 -- One part after the other.
 pub put-none : (line : List ℕ) → putAll [] line ≡ line
@@ -189,68 +187,116 @@ pub put-first : (part : Part) (parts : List Part) (line : List ℕ) → putAll (
 unfolding putAll
 put-first part parts line = refl
 
--- Parts that are put in from a place on leave what stands before it.
-puts-before : (parts : List Part) (from : ℕ) → T (tiles from parts) → (line : List ℕ) (k : ℕ) → k < from → getD (putAll parts line) k 0 ≡ getD line k 0
-unfolding putAll
-puts-before [] from t line k h = refl
-puts-before (part ∷ parts) from t line k h =
-    let p = tiled from part parts t in
-    puts-before parts (end part) (p .rest) (put part line) k (omega (arith, p .forward))
-    ∙ put-elsewhere part (p .is-sound) line k (inl (omega (arith, p .here)))
-
 pub puts-keep : (parts : List Part) (line : List ℕ) → length (putAll parts line) ≡ length line
 unfolding putAll
 puts-keep [] line = refl
 puts-keep (part ∷ parts) line = puts-keep parts (put part line) ∙ put-keeps part line
 
--- All of them stand in the line, where it was blank from that place on.
-puts-hold : (parts : List Part) (from : ℕ) → T (tiles from parts) → AllFit parts → (line : List ℕ) → length line ≡ 290
-    → ((k : ℕ) → from ≤ k → k < 290 → getD line k 0 ≡ 0x20) → AllHold parts (putAll parts line)
+pub puts-append : (parts more : List Part) (line : List ℕ) → putAll (parts ++ more) line ≡ putAll more (putAll parts line)
 unfolding putAll
-puts-hold [] from t fit line long empty = tt
-puts-hold (part ∷ parts) from t fit line long empty =
-    let p = tiled from part parts t in
-    let next = put part line in
-    let ends = tiles-end (end part) parts (p .rest) in
-    let here =
-    put-holds part (p .is-sound) (fit .0) line (omega arith) (λ k low high. empty k (omega (arith, p .here)) (omega arith)) in
-    let rest =
-    puts-hold parts (end part) (p .rest) (fit .1) next (put-keeps part line ∙ long)
-    (λ k low high. put-elsewhere part (p .is-sound) line k (inr low) ∙ empty k (omega (arith, p .forward)) high) in
-    (holds-alike (putAll parts next) next part (p .is-sound) (λ k low high. puts-before parts (end part) (p .rest) next k high) here, rest)
+puts-append [] more line = refl
+puts-append (part ∷ parts) more line = puts-append parts more (put part line)
 
--- What holds of each place of every part holds of each place from `from` on.
-module _ (P : ℕ → Type 0) (Q : Part → Type 0) (each : (part : Part) → T (sound part) → Q part → (k : ℕ) → begin part ≤ k → k < end part → P k) where
-  everywhere : (parts : List Part) (from : ℕ) → T (tiles from parts) → AllOf Q parts → (k : ℕ) → from ≤ k → k < 290 → P k
-  everywhere [] from t all k low high = absurd (omega (arith, eqb-true from 290 (is-true _ t)))
-  everywhere (part ∷ parts) from t all k low high =
-      at-place (ltb k (end part)) refl (everywhere parts (end part) (tiled from part parts t .rest) (all .1) k) where
-        at-place : (before : Bool) → ltb k (end part) ≡ before → (end part ≤ k → k < 290 → P k) → P k
-        at-place true e later =
-            let first = tiled from part parts t in
-            each part (first .is-sound) (all .0) k (omega (arith, first .here)) (ltb-true k (end part) e)
-        at-place false e later = later (ltb-false k (end part) e) high
+-- ---- parts that tile a line of n characters
+module _ (n : ℕ) where
+  -- The first of parts that tile, and the others.
+  record Tiled (from : ℕ) (part : Part) (parts : List Part) : Type 0 where
+    here : begin part ≡ from
+    forward : from ≤ end part
+    is-sound : T (sound part)
+    rest : T (tiles n (end part) parts)
 
--- ---- the record
-module _ (parts : List Part) (t : T (tiles 0 parts)) (fit : AllFit parts) where
-  pub record-length : length (recordOf parts) ≡ 290
-  record-length = puts-keep parts (blanks 290) ∙ length-replicate {A = ℕ} 290 0x20
+  tiled : (from : ℕ) (part : Part) (parts : List Part) → T (tiles n from (part ∷ parts)) → Tiled from part parts
+  tiled from part parts t =
+      let first = eqb (begin part) from in
+      let order = leb from (end part) in
+      let front = both-left (first && order && sound part) (tiles n (end part) parts) t in
+      let columns = both-hold first order (is-true _ (both-left (first && order) (sound part) front)) in
+      record {
+        here = eqb-true (begin part) from (columns .0);
+        forward = leb-true from (end part) (columns .1);
+        is-sound = both-right (first && order) (sound part) front;
+        rest = both-right (first && order && sound part) (tiles n (end part) parts) t;
+      }
 
-  -- Each part stands in the record,
-  pub record-holds : AllHold parts (recordOf parts)
-  record-holds = puts-hold parts 0 t fit (blanks 290) (length-replicate {A = ℕ} 290 0x20) (λ k low high. getD-replicate {A = ℕ} 290 k 0x20 0 high)
+  tiles-end : (from : ℕ) (parts : List Part) → T (tiles n from parts) → from ≤ n
+  tiles-end from [] t = omega (arith, eqb-true from n (is-true _ t))
+  tiles-end from (part ∷ parts) t =
+      let p = tiled from part parts t in
+      omega (arith, p .forward, tiles-end (end part) parts (p .rest))
 
-  -- and its characters are read as they stand.
-  pub record-plain : (k : ℕ) → k < 290 → Plain (getD (recordOf parts) k 0)
-  record-plain k h =
-      everywhere (λ j. Plain (getD (recordOf parts) j 0)) (λ part. Holds part (recordOf parts)) (holds-plain (recordOf parts)) parts 0 t record-holds k (omega arith) h
+  -- Parts that are put in from a place on leave what stands before it.
+  puts-before : (parts : List Part) (from : ℕ) → T (tiles n from parts) → (line : List ℕ) (k : ℕ) → k < from → getD (putAll parts line) k 0 ≡ getD line k 0
+  unfolding putAll
+  puts-before [] from t line k h = refl
+  puts-before (part ∷ parts) from t line k h =
+      let p = tiled from part parts t in
+      puts-before parts (end part) (p .rest) (put part line) k (omega (arith, p .forward))
+      ∙ put-elsewhere part (p .is-sound) line k (inl (omega (arith, p .here)))
 
--- No other line of its length holds all parts.
-pub record-only : (parts : List Part) → T (tiles 0 parts) → (line : List ℕ) → length line ≡ 290 → AllHold parts line → line ≡ recordOf parts
-record-only parts t line long holds =
-    let same = recordOf parts in
-    let fit = all-fit parts line holds in
-    ext-getD 0 line same (long ∙ sym (record-length parts t fit))
-    (λ k h. everywhere (λ j. getD line j 0 ≡ getD same j 0) (λ part. Holds part line × Holds part same)
-    (λ part s both. holds-same line same part s (both .0) (both .1)) parts 0 t
-    (all-both (λ part. Holds part line) (λ part. Holds part same) parts holds (record-holds parts t fit)) k (omega arith) (omega arith))
+  -- All of them stand in the line, where it was blank from that place on.
+  puts-hold : (parts : List Part) (from : ℕ) → T (tiles n from parts) → AllFit parts → (line : List ℕ) → length line ≡ n
+      → ((k : ℕ) → from ≤ k → k < n → getD line k 0 ≡ 0x20) → AllHold parts (putAll parts line)
+  unfolding putAll
+  puts-hold [] from t fit line long empty = tt
+  puts-hold (part ∷ parts) from t fit line long empty =
+      let p = tiled from part parts t in
+      let next = put part line in
+      let ends = tiles-end (end part) parts (p .rest) in
+      let here =
+      put-holds part (p .is-sound) (fit .0) line (omega arith) (λ k low high. empty k (omega (arith, p .here)) (omega arith)) in
+      let rest =
+      puts-hold parts (end part) (p .rest) (fit .1) next (put-keeps part line ∙ long)
+      (λ k low high. put-elsewhere part (p .is-sound) line k (inr low) ∙ empty k (omega (arith, p .forward)) high) in
+      (holds-alike (putAll parts next) next part (p .is-sound) (λ k low high. puts-before parts (end part) (p .rest) next k high) here, rest)
+
+  -- What holds of each place of every part holds of each place from `from` on.
+  module _ (P : ℕ → Type 0) (Q : Part → Type 0) (each : (part : Part) → T (sound part) → Q part → (k : ℕ) → begin part ≤ k → k < end part → P k) where
+    everywhere : (parts : List Part) (from : ℕ) → T (tiles n from parts) → AllOf Q parts → (k : ℕ) → from ≤ k → k < n → P k
+    everywhere [] from t all k low high = absurd (omega (arith, eqb-true from n (is-true _ t)))
+    everywhere (part ∷ parts) from t all k low high =
+        at-place (ltb k (end part)) refl (everywhere parts (end part) (tiled from part parts t .rest) (all .1) k) where
+          at-place : (before : Bool) → ltb k (end part) ≡ before → (end part ≤ k → k < n → P k) → P k
+          at-place true e later =
+              let first = tiled from part parts t in
+              each part (first .is-sound) (all .0) k (omega (arith, first .here)) (ltb-true k (end part) e)
+          at-place false e later = later (ltb-false k (end part) e) high
+
+  -- ---- the record
+  module _ (parts : List Part) (t : T (tiles n 0 parts)) (fit : AllFit parts) where
+    pub record-length : length (lineOf n parts) ≡ n
+    record-length = puts-keep parts (blanks n) ∙ length-replicate {A = ℕ} n 0x20
+
+    -- Each part stands in the record,
+    pub record-holds : AllHold parts (lineOf n parts)
+    record-holds = puts-hold parts 0 t fit (blanks n) (length-replicate {A = ℕ} n 0x20) (λ k low high. getD-replicate {A = ℕ} n k 0x20 0 high)
+
+    -- and its characters are read as they stand.
+    pub record-plain : (k : ℕ) → k < n → Plain (getD (lineOf n parts) k 0)
+    record-plain k h =
+        everywhere (λ j. Plain (getD (lineOf n parts) j 0)) (λ part. Holds part (lineOf n parts)) (holds-plain (lineOf n parts)) parts 0 t record-holds k (omega arith) h
+
+  -- Two lines of its length that share each part are the same in every column that is not free.
+  module _ (free : ℕ → Bool) (a b : List ℕ) (long : length a ≡ n) (long′ : length b ≡ n) (parts : List Part) (t : T (tiles n 0 parts))
+      (shared : AllOf (Shared free a b) parts) where
+    each-shared : (part : Part) → T (sound part) → Shared free a b part → (k : ℕ) → begin part ≤ k → k < end part → free (k + 1) ≡ false
+        → getD a k 0 ≡ getD b k 0
+    each-shared part s (inl both) k low high e = holds-same a b part s (both .0) (both .1) k low high
+    each-shared part s (inr all) k low high e = absurd (false≢true (sym e ∙ all k low high))
+
+    pub shared-alike : (k : ℕ) → free (k + 1) ≡ false → getD a k 0 ≡ getD b k 0
+    shared-alike k = at (ltb k n) refl where
+      at : (inside : Bool) → ltb k n ≡ inside → free (k + 1) ≡ false → getD a k 0 ≡ getD b k 0
+      at true e =
+          everywhere (λ j. free (j + 1) ≡ false → getD a j 0 ≡ getD b j 0) (Shared free a b) each-shared parts 0 t shared k (omega arith) (ltb-true k n e)
+      at false e = λ shown. let past = ltb-false k n e in past-end a k (omega arith) ∙ sym (past-end b k (omega arith))
+
+  -- No other line of its length holds all parts.
+  pub record-only : (parts : List Part) → T (tiles n 0 parts) → (line : List ℕ) → length line ≡ n → AllHold parts line → line ≡ lineOf n parts
+  record-only parts t line long holds =
+      let same = lineOf n parts in
+      let fit = all-fit parts line holds in
+      ext-getD 0 line same (long ∙ sym (record-length parts t fit))
+      (λ k h. everywhere (λ j. getD line j 0 ≡ getD same j 0) (λ part. Holds part line × Holds part same)
+      (λ part s both. holds-same line same part s (both .0) (both .1)) parts 0 t
+      (all-both (λ part. Holds part line) (λ part. Holds part same) parts holds (record-holds parts t fit)) k (omega arith) (omega arith))

@@ -1,4 +1,4 @@
--- Definitions: the T and the F record that are written.
+-- Definitions: a record made of the parts that stand in its columns, for every format; and the T and the F record of PFML that are written.
 use Prim.Native.Nat.{ℕ}
 use mathlib.Core.List.{List, [], _∷_}
 use Rattle.laws.specs.Spelling.{bytes}
@@ -25,19 +25,24 @@ unfoldable pub putAll : List Part → List ℕ → List ℕ
 putAll [] line = line
 putAll (part ∷ parts) line = putAll parts (put part line)
 
--- "Each line has 290 characters": blanks, with the fields put in one after the other.
-abbrev pub recordOf : List Part → List ℕ
-recordOf parts = putAll parts (blanks 290)
+-- A record of so many characters: blanks, with the fields put in one after the other.
+abbrev pub lineOf : ℕ → List Part → List ℕ
+lineOf n parts = putAll parts (blanks n)
 
 -- A part that fills a field of the list.
-abbrev textAt : List ℕ → List ℕ → Part
+abbrev pub textAt : List ℕ → List ℕ → Part
 textAt field t = text (firstIn field) t
 
-abbrev numberAt : List ℕ → ℕ → Part
+abbrev pub numberAt : List ℕ → ℕ → Part
 numberAt field v = number (firstIn field) (lastIn field) v
 
-abbrev blankAt : List ℕ → Part
+abbrev pub blankAt : List ℕ → Part
 blankAt field = blank (firstIn field) (lastIn field)
+
+-- ---- PFML
+-- "Each line has 290 characters"
+abbrev pub recordOf : List Part → List ℕ
+recordOf parts = lineOf 290 parts
 
 -- The fields in order, and beside each the name that its table has for it.
 

@@ -47,8 +47,8 @@ finalNext walk = isPfml (walk .held .format) && isAfterT (walk .standing)
 abbrev pub noneToTotal : Open → Bool
 noneToTotal this = eqb (this .count) 0 && this .follow
 
--- The number of the refusal, "in order"; 0 where there is none. `long`: the slice has 290 bytes; `next`: the record may come next; `none`: there is
--- none to total; `large`: the sum has more digits than its field.
+-- The number of the refusal, "in order"; 0 where there is none. `long`: the slice has the record's length; `next`: the record may come next; `none`:
+-- there is none to total; `large`: a number has more digits than its field. Every format refuses in this order; the words are PFML's.
 unfoldable pub refusalOf : Bool → Bool → Bool → Bool → Bool → ℕ
 refusalOf unfitness long next none large =
     -- "72"
@@ -63,6 +63,7 @@ refusalOf unfitness long next none large =
     if large then 82 else
     0
 
+-- What the record's length is, when it may come next and when a number is too large is each format's own; here it is PFML's.
 abbrev pub totalRefusal : Walk → ℕ → ℕ
 totalRefusal walk size =
     refusalOf (unfit (noTables walk) walk) (eqb size 290) (totalNext walk) (noneToTotal (walk .open)) (leb (10 ^ 14) (walk .open .sum))

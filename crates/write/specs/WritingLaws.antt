@@ -5,12 +5,17 @@ use mathlib.Core.List.{List}
 use mathlib.Core.Path.{_≡_, refl, sym, ap, _∙_}
 use native.Mathlib.Omega.{arith}
 use lib.Dec.{eqb}
-use borrow.Author.Tests.{eqb-true, ne-eqb}
+use lib.ListN.{length}
+use borrow.Author.Tests.{eqb-true, eq-eqb, ne-eqb}
 use Rattle.reason.specs.ReasonNumbers.{Notice, notice}
 use Rattle.reason.specs.Once.{never-zero}
 use Rattle.reason.specs.declared.Refusal.{Refusal}
+use Rattle.tables.specs.Room.{Room}
+use Rattle.state.specs.Unfit.{unfit}
+use Rattle.state.specs.UnfitLaws.{fit-without}
+use Rattle.state.specs.Walks.{Walk}
 use Rattle.step.specs.Moves.{allWell}
-use Rattle.write.specs.Writing.{refusalOf, writing, noticeIn, writtenBy}
+use Rattle.write.specs.Writing.{noTables, refusalOf, writing, noticeIn, writtenBy}
 use Rattle.write.specs.declared.Wrote.{Wrote}
 use Rattle.write.specs.declared.Wrote.the-variants.{Record, Refused}
 
@@ -56,13 +61,21 @@ module _ (number : ℕ) (wrote : Wrote) (says : noticeIn wrote ≡ notice number
     pub leaves : (why : Refusal) → wrote ≡ Refused why → writtenBy wrote out ≡ writing number line out
     leaves why e = rw (says, ne-eqb number 0 (refused-number why e))
 
--- A slice that is written has 290 bytes.
-pub written-length : (unfitness : Bool) (size : ℕ) (next none large : Bool) (wrote : Wrote)
-    → noticeIn wrote ≡ notice (refusalOf unfitness (eqb size 290) next none large) 0 0 → wrote ≡ Record → size ≡ 290
-written-length unfitness size next none large wrote says e =
-    let long = eqb size 290 in
-    eqb-true size 290 (not-refused unfitness long next none large (written-zero (refusalOf unfitness long next none large) wrote says e) .is-long)
+-- A slice that is written has the record's length.
+pub written-length : (n : ℕ) (unfitness : Bool) (size : ℕ) (next none large : Bool) (wrote : Wrote)
+    → noticeIn wrote ≡ notice (refusalOf unfitness (eqb size n) next none large) 0 0 → wrote ≡ Record → size ≡ n
+written-length n unfitness size next none large wrote says e =
+    let long = eqb size n in
+    eqb-true size n (not-refused unfitness long next none large (written-zero (refusalOf unfitness long next none large) wrote says e) .is-long)
 
 -- What is not refused is written.
 pub written-is : (number : ℕ) (line out : List ℕ) → notice number 0 0 ≡ allWell → writing number line out ≡ record { says = allWell; out = line }
 written-is number line out says = let zero : number ≡ 0 = ap (λ (n : Notice). n .number) says in rw zero
+
+-- Nor is a writing into a slice of its length, where the walk is fit and the record may be written.
+pub allowed : (n : ℕ) (walk : Walk) (room : Room) → unfit room walk ≡ false → (next none large : Bool) → next ≡ true → none ≡ false → large ≡ false
+    → (out : List ℕ) → length out ≡ n → notice (refusalOf (unfit (noTables walk) walk) (eqb (length out) n) next none large) 0 0 ≡ allWell
+allowed n walk room fit next none large in-place some small out long =
+    ap (λ (number : ℕ). notice number 0 0)
+    (free-written (unfit (noTables walk) walk) (eqb (length out) n) next none large
+    (record { fit = fit-without room walk fit; is-long = eq-eqb (length out) n long; in-place = in-place; some = some; small = small }))

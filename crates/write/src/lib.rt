@@ -1,4 +1,5 @@
-// The T and the F record of PFML that a walk accepts next, written into a lent slice.
+// The T and the F record of PFML that a walk accepts next, written into a lent slice; and what the
+// writing of every format answers.
 use edits::Open;
 use edits::Phase;
 use edits::Totals;
@@ -66,7 +67,7 @@ fn phase_after_t(phase: Phase) -> bool
 }
 
 // Whether the walk stands right after a T.
-fn is_after_t(stage: Stage) -> bool
+pub fn is_after_t(stage: Stage) -> bool
     ensures { λ r. ⌜ r ≡ isAfterT (standingOf stage) ⌝ }
 {
     match stage {
@@ -103,7 +104,7 @@ fn is_f_next(st: State) -> bool
 }
 
 // No S record stands under an E that says that some follow.
-fn none_to_total(e: Open) -> bool
+pub fn none_to_total(e: Open) -> bool
     ensures { λ r. ⌜ r ≡ noneToTotal e ⌝ }
 {
     if e.count == 0 {
@@ -113,7 +114,7 @@ fn none_to_total(e: Open) -> bool
 }
 
 // 72 for a call that is lent no table: room for what is in use.
-fn is_unfit(st: State) -> bool
+pub fn is_unfit(st: State) -> bool
     ensures { λ r. ⌜ r ≡ unfit (noTables (walkOf st)) (walkOf st) ⌝ }
 {
     let all = st.all;
@@ -122,7 +123,7 @@ fn is_unfit(st: State) -> bool
 
 // The refusals in order: `long` says that the slice has its length, `next` that the record may come
 // next, `none` that there is none to total, `large` that the sum is too large.
-fn answer(unfit: bool, long: bool, next: bool, none: bool, large: bool) -> Wrote
+pub fn answer(unfit: bool, long: bool, next: bool, none: bool, large: bool) -> Wrote
     ensures { λ r. ⌜ noticeIn r ≡ notice (refusalOf unfit long next none large) 0 0 ⌝ }
 {
     if unfit {

@@ -11,6 +11,7 @@ pub const ROOM: Room = Room {
 };
 
 /// The output for an input.
+#[cfg(test)]
 pub fn answer(input: &[u8]) -> Vec<u8> {
     frames(&outcome(input))
 }
@@ -38,8 +39,14 @@ pub fn header(input: &[u8]) -> Option<(Quarter, &[u8])> {
     Some((Quarter::new(value / 100, value % 100), file))
 }
 
-/// "Output: lines of hexadecimal in capitals, one frame a line, LF, numbers big-endian."
+/// The output in PFML.
 pub fn frames(outcome: &Outcome) -> Vec<u8> {
+    frames_with(outcome, employer_frame)
+}
+
+/// "Output: lines of hexadecimal in capitals, one frame a line, LF, numbers big-endian." The frame of
+/// an employer goes by the format.
+pub fn frames_with(outcome: &Outcome, employer_frame: fn(&Entry) -> Vec<u8>) -> Vec<u8> {
     let mut output = Vec::new();
     match outcome {
         Outcome::Accepted(accepted) => {
@@ -86,7 +93,7 @@ fn refusal_frame(refusal: &Refusal) -> Vec<u8> {
 }
 
 /// A number in so many bytes, big-endian.
-fn put(frame: &mut Vec<u8>, value: u64, width: usize) {
+pub fn put(frame: &mut Vec<u8>, value: u64, width: usize) {
     let bytes = value.to_be_bytes();
     let (above, below) = bytes.split_at(8 - width);
     assert!(above.iter().all(|byte| *byte == 0), "the number fits");

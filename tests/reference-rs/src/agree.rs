@@ -5,11 +5,12 @@
 use crate::ack;
 use crate::calendar::Quarter;
 use crate::edits::{Phase, Refusal};
+use crate::format::Format;
 use crate::lines::lines_of;
 use crate::meaning::{acknowledge, acknowledge_by_scanning, Entry, Outcome, Room};
 use crate::rng::Rng;
 use crate::tables::Tables;
-use crate::walk::{self, Answer, Format, Standing, State};
+use crate::walk::{self, Answer, Standing, State};
 
 /// Longer files are scanned by nobody: that takes the square of their length.
 const LONGEST_SCANNED: usize = 40_000;

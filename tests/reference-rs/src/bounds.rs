@@ -9,6 +9,8 @@ mod orders;
 mod quarters;
 mod totals;
 
+pub use addresses::{EXTENSIONS, ZIPS};
+
 use crate::breaks::record_for;
 use crate::calendar::Quarter;
 use crate::draft::*;

@@ -456,23 +456,24 @@ const NO_ENTITIES: [&[u8; 4]; 12] = [
     b"0000", b"PFM\x2E",
 ];
 
-/// ZIP codes and extensions that do not fit a state, and those that do not fit a province.
-const NO_ZIP_IN_STATE: [&[u8; 5]; 9] = [
+/// ZIP codes and extensions that do not fit a state, and those that do not fit a province; these are
+/// the same in all formats, as are the codes.
+pub const NO_ZIP_IN_STATE: [&[u8; 5]; 9] = [
     b"K1A 0", b"0433 ", b" 0433", b"     ", b"04A32", b"O4332", b"0433-", b"-0433", b"A4332",
 ];
-const NO_ZIP_IN_PROVINCE: [&[u8; 5]; 10] = [
+pub const NO_ZIP_IN_PROVINCE: [&[u8; 5]; 10] = [
     b"04332", b"K1A0B", b"K1A-0", b"11A 0", b"KAA 0", b"K11 0", b"K1A  ", b"K1A A", b"     ",
     b" K1A0",
 ];
-const NO_EXTENSION_IN_STATE: [&[u8; 5]; 9] = [
+pub const NO_EXTENSION_IN_STATE: [&[u8; 5]; 9] = [
     b"1061 ", b"01061", b"-106 ", b"- 061", b"-10A1", b" 1061", b"B1   ", b"-    ", b"    1",
 ];
-const NO_EXTENSION_IN_PROVINCE: [&[u8; 5]; 10] = [
+pub const NO_EXTENSION_IN_PROVINCE: [&[u8; 5]; 10] = [
     b"     ", b"-1061", b"1B   ", b"BB   ", b"11   ", b"B1X  ", b"B1 X ", b"B1  X", b" B1  ",
     b"B    ",
 ];
 
-fn is_in_province(line: &Line) -> bool {
+pub fn is_in_province(line: &Line) -> bool {
     let code = line.columns(139, 140);
     region_of([code[0], code[1]]) == Region::Province
 }
@@ -483,7 +484,7 @@ const NO_STATES: [&[u8; 2]; 14] = [
     b"M3",
 ];
 
-fn unknown_state(rng: &mut Rng) -> [u8; 2] {
+pub fn unknown_state(rng: &mut Rng) -> [u8; 2] {
     loop {
         let code = match rng.below(3) {
             0 => *rng.pick(&NO_STATES),
@@ -786,7 +787,7 @@ fn employees(list: &mut List) {
 }
 
 /// Another number of so many digits, often a near one.
-fn another(rng: &mut Rng, own: u64, width: u32) -> Option<u64> {
+pub fn another(rng: &mut Rng, own: u64, width: u32) -> Option<u64> {
     let bound = 10u64.pow(width);
     let far = rng.below(bound);
     let high = 1u64 << rng.between(1, 49);
@@ -830,7 +831,7 @@ fn totals(list: &mut List) {
 
 /// 70.
 fn headers(list: &mut List) {
-    fn add(list: &mut List, name: &str, change: fn(&mut Rng, &mut Vec<u8>)) {
+    for (name, change) in HEADER_CHANGES {
         list.add(70, format!("header: {name}"), move |rng, draft| {
             if draft.header.len() != 7 {
                 return None;
@@ -839,34 +840,40 @@ fn headers(list: &mut List) {
             Some(Refusal::new(70, 0, 0))
         });
     }
-    add(list, "year", |rng, header| {
+}
+
+type HeaderChange = fn(&mut Rng, &mut Vec<u8>);
+
+/// Ways to make a header of seven bytes one that is none; it is the same in all formats.
+pub const HEADER_CHANGES: [(&str, HeaderChange); 6] = [
+    ("year", |rng, header| {
         let any = rng.below(2025);
         let year = rng.pick(&[0, 1, 1999, 2024, 2024, any]);
         put_number(header, 1, 4, year);
-    });
-    add(list, "month", |rng, header| {
+    }),
+    ("month", |rng, header| {
         let month = rng.pick(&NO_PERIODS);
         put(header, 5, month);
-    });
-    add(list, "no digit", |rng, header| {
+    }),
+    ("no digit", |rng, header| {
         let column = rng.column(1, 6);
         put(header, column, &[not_digit(rng)]);
-    });
-    add(list, "other end", |rng, header| {
+    }),
+    ("other end", |rng, header| {
         let end: &[u8] = rng.pick(&[b"\r", b"\r\n", b" \n", b"", b"\0"]);
         header.truncate(6);
         header.extend_from_slice(end);
-    });
-    add(list, "length", |rng, header| {
+    }),
+    ("length", |rng, header| {
         let longer: &[u8] = rng.pick(&[b"0", b" ", b"+", b"\n", b"\xEF\xBB\xBF"]);
         match rng.below(3) {
             0 => drop(header.remove(rng.index(6))),
             1 => drop(header.splice(0..0, longer.iter().copied())),
             _ => drop(header.splice(6..6, *b"0")),
         }
-    });
-    add(list, "missing", |_, header| header.clear());
-}
+    }),
+    ("missing", |_, header| header.clear()),
+];
 
 #[cfg(test)]
 mod tests {

@@ -19,6 +19,8 @@
 //! - `X`, a line, lent a list of 65,540 entries: the state has 65,535 employers, or one or two more,
 //!   by the digit in 2; bytes
 //! - `R`, a record written: `T` or `F` in 2, the length of the slice lent 3-5, at most 300
+//! - `H`, a record of an amended withholding file written: as `R`; of a `T` the payments 6-25 and the
+//!   total of all employees 26-45
 //! - `F`, the frames: entries lent 2-3, the length of the buffer lent 4-6, at most 700
 //! - `B`, a record built: `A`, `E` or `S` in 2, the length of the slice lent 3-5, at most 300; then
 //!   the values, at most 40, a comma before each; then the texts, at most 600 bytes, after a stroke
@@ -34,8 +36,10 @@
 use crate::build::Built;
 use crate::calendar::Quarter;
 use crate::edits::{Phase, Refusal};
+use crate::format::Format;
 use crate::meaning::{Entry, Room};
-use crate::walk::{Format, OpenE, Standing, State, Unused, UnusedOfE};
+use crate::walk::{MoreOfE, MoreOfFile, OpenE, Standing, State};
+use crate::wham::write::Given;
 use crate::write::Written;
 
 #[derive(Clone, Debug, PartialEq, Eq)]
@@ -68,6 +72,12 @@ pub enum Command {
     Write {
         record: Written,
         length: usize,
+    },
+    WriteWham {
+        record: Written,
+        length: usize,
+        /// Zeros with an F, which is given nothing.
+        given: Given,
     },
     Frames {
         entries: usize,
@@ -165,8 +175,8 @@ pub fn refusal_held(standing: Standing) -> Refusal {
 pub fn plain(state: &State) -> State {
     let mut plain = *state;
     plain.format = Format::Pfml;
-    plain.open.unused = UnusedOfE::default();
-    plain.unused = Unused::default();
+    plain.open.more = MoreOfE::default();
+    plain.more = MoreOfFile::default();
     plain
 }
 
@@ -244,6 +254,14 @@ impl Text {
         self.number(length as u64, 3);
     }
 
+    fn writing_wham(&mut self, record: Written, length: usize, given: Given) {
+        self.writing(record, length);
+        match record {
+            Written::T => drop(self.number(given.payments, 20).number(given.total, 20)),
+            Written::F => assert_eq!(given, Given::default(), "an F is given nothing"),
+        }
+    }
+
     fn framing(&mut self, entries: usize, length: usize) {
         assert!(length <= LONGEST_BUFFER, "{length} bytes are too many");
         self.number(entries as u64, 2).number(length as u64, 3);
@@ -312,6 +330,7 @@ impl Command {
             Command::Tables(_) => b'T',
             Command::Beyond { .. } => b'X',
             Command::Write { .. } => b'R',
+            Command::WriteWham { .. } => b'H',
             Command::Frames { .. } => b'F',
             Command::Build { .. } => b'B',
             Command::Field { .. } => b'G',
@@ -337,6 +356,11 @@ impl Command {
             Command::Tables(altered) => text.alteration(altered),
             Command::Beyond { more, bytes } => text.number(*more, 1).bytes(bytes),
             Command::Write { record, length } => text.writing(*record, *length),
+            Command::WriteWham {
+                record,
+                length,
+                given,
+            } => text.writing_wham(*record, *length, *given),
             Command::Frames { entries, length } => text.framing(*entries, *length),
             Command::Build {
                 record,
@@ -361,11 +385,7 @@ impl Command {
     pub fn read(text: &[u8]) -> Option<Command> {
         let columns = Columns(text);
         Some(match columns.0.first()? {
-            b'O' => Command::Open {
-                format: columns.number(2, 21)?,
-                held: columns.quarter(22)?,
-                lent: columns.lent(29)?,
-            },
+            b'O' => columns.opening()?,
             b'L' => Command::Line {
                 lent: columns.lent(2)?,
                 bytes: columns.bytes(6)?,
@@ -373,19 +393,15 @@ impl Command {
             b'E' => Command::End {
                 lent: columns.lent(2)?,
             },
-            b'W' => Command::Whole {
-                format: columns.number(2, 21)?,
-                held: columns.quarter(22)?,
-                lent: columns.lent(29)?,
-                bytes: columns.bytes(33)?,
-            },
+            b'W' => columns.whole()?,
             b'S' => Command::State(columns.state()?),
             b'T' => Command::Tables(columns.alteration()?),
             b'X' => Command::Beyond {
                 more: columns.number(2, 2)?,
                 bytes: columns.bytes(3)?,
             },
-            b'R' => columns.writing()?,
+            b'R' => columns.writing_pfml()?,
+            b'H' => columns.writing_wham()?,
             b'F' => columns.framing()?,
             b'B' => columns.building()?,
             b'G' => Command::Field {
@@ -431,6 +447,23 @@ impl Columns<'_> {
         (*mark == b'|').then(|| bytes.to_vec())
     }
 
+    fn opening(&self) -> Option<Command> {
+        Some(Command::Open {
+            format: self.number(2, 21)?,
+            held: self.quarter(22)?,
+            lent: self.lent(29)?,
+        })
+    }
+
+    fn whole(&self) -> Option<Command> {
+        Some(Command::Whole {
+            format: self.number(2, 21)?,
+            held: self.quarter(22)?,
+            lent: self.lent(29)?,
+            bytes: self.bytes(33)?,
+        })
+    }
+
     fn standing(&self) -> Option<Standing> {
         let number = self.number(3, 4)? as u8;
         let (line, column) = (self.number(5, 14)?, self.number(15, 19)?);
@@ -458,12 +491,12 @@ impl Columns<'_> {
                 s: self.number(55, 64)?,
                 cents: self.number(65, 83)?,
                 ids_in_use: self.number(123, 132)?,
-                unused: UnusedOfE::default(),
+                more: MoreOfE::default(),
             },
             s: self.number(84, 93)?,
             employers: self.number(94, 103)?,
             cents: self.number(104, 122)?,
-            unused: Unused::default(),
+            more: MoreOfFile::default(),
         })
     }
 
@@ -483,11 +516,33 @@ impl Columns<'_> {
         })
     }
 
-    fn writing(&self) -> Option<Command> {
+    /// The record, and the length of the slice.
+    fn writing(&self) -> Option<(Written, usize)> {
         let letter = self.0.get(1)?;
         let record = Written::BOTH.into_iter().find(|r| r.letter() == *letter)?;
         let length = self.number(3, 5)? as usize;
-        (length <= LONGEST_SLICE).then_some(Command::Write { record, length })
+        (length <= LONGEST_SLICE).then_some((record, length))
+    }
+
+    fn writing_pfml(&self) -> Option<Command> {
+        let (record, length) = self.writing()?;
+        Some(Command::Write { record, length })
+    }
+
+    fn writing_wham(&self) -> Option<Command> {
+        let (record, length) = self.writing()?;
+        let given = match record {
+            Written::T => Given {
+                payments: self.number(6, 25)?,
+                total: self.number(26, 45)?,
+            },
+            Written::F => Given::default(),
+        };
+        Some(Command::WriteWham {
+            record,
+            length,
+            given,
+        })
     }
 
     fn framing(&self) -> Option<Command> {
@@ -546,9 +601,9 @@ mod tests {
                 s: 2,
                 cents: 300,
                 ids_in_use: 1,
-                unused: UnusedOfE::default(),
+                more: MoreOfE::default(),
             },
-            unused: Unused::default(),
+            more: MoreOfFile::default(),
         }
     }
 
@@ -574,6 +629,18 @@ mod tests {
             (Command::Line { lent: LENT, bytes: Vec::new() }, "L0403|"),
             (Command::Write { record: Written::T, length: 290 }, "RT290"),
             (Command::Write { record: Written::F, length: 1 }, "RF001"),
+            (
+                Command::WriteWham {
+                    record: Written::T,
+                    length: 275,
+                    given: Given { payments: 100_050, total: u64::MAX },
+                },
+                "HT2750000000000000010005018446744073709551615",
+            ),
+            (
+                Command::WriteWham { record: Written::F, length: 0, given: Given::default() },
+                "HF000",
+            ),
             (Command::Frames { entries: 3, length: 105 }, "F03105"),
             (Command::Word { at: 10, number: u64::MAX }, "N1018446744073709551615"),
             (
@@ -645,6 +712,9 @@ mod tests {
         assert_eq!(Command::read(b"RS290"), None);
         assert_eq!(Command::read(b"RT301"), None);
         assert_eq!(Command::read(b"RT29"), None);
+        assert_eq!(Command::read(b"HS275"), None);
+        assert_eq!(Command::read(b"HT275"), None);
+        assert_eq!(Command::read(b"HF301"), None);
         assert_eq!(Command::read(b"F03701"), None);
         assert_eq!(Command::read(b"BT290|"), None);
         assert_eq!(Command::read(b"BA301|"), None);

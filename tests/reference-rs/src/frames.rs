@@ -1,8 +1,8 @@
 //! The frames of a walk, written into a lent buffer.
 
-use crate::ack::frames;
+use crate::exports::unfit;
 use crate::meaning::{Accepted, Entry, Outcome};
-use crate::walk::{unfit, Standing, State};
+use crate::walk::{Standing, State};
 
 /// No id table is lent, so none is compared.
 const NOT_LENT: usize = usize::MAX;
@@ -18,7 +18,7 @@ pub fn write(state: &State, list: &[Entry], buffer: &mut [u8]) -> Result<usize, 
         Standing::Accepted => accepted(state, list),
         Standing::Refused(refusal) => Outcome::Refused(refusal),
     };
-    let frames = frames(&outcome);
+    let frames = state.format.frames(&outcome);
     let front = buffer.get_mut(..frames.len()).ok_or(88)?;
     front.copy_from_slice(&frames);
     Ok(frames.len())

@@ -8,6 +8,7 @@ use crate::draft::*;
 use crate::edits::Refusal;
 use crate::gen::{Case, Meant};
 use crate::meaning::Outcome;
+use crate::pairs::Twin;
 use crate::pieces;
 use crate::rng::Rng;
 
@@ -17,13 +18,17 @@ const FEIN: u64 = 12_345_678;
 /// Two inputs, what they break, and what each gets.
 pub struct Needed {
     hypothesis: Hypothesis,
-    pub one: Case,
-    pub other: Case,
+    one: Case,
+    other: Case,
 }
 
-impl Needed {
+impl Twin for Needed {
+    fn cases(&self) -> [&Case; 2] {
+        [&self.one, &self.other]
+    }
+
     /// Tells if the pair breaks something else, or if it gets one answer.
-    pub fn check(&self, found: &[Outcome; 2]) -> Result<(), String> {
+    fn check(&self, found: &[Outcome; 2]) -> Result<(), String> {
         let broken = alike::broken(&self.one.input, &self.other.input);
         if broken != [self.hypothesis] {
             return Err(format!("{}: breaks {broken:?}", self.one.name));
@@ -314,11 +319,12 @@ mod tests {
     use super::*;
     use crate::ack::outcome;
     use crate::alike::HYPOTHESES;
+    use crate::format::Format;
     use crate::tally::Tally;
 
     #[test]
     fn each_hypothesis_is_needed() {
-        let mut tally = Tally::default();
+        let mut tally = Tally::of(Format::Pfml);
         let all = all();
         for pair in &all {
             let found = [outcome(&pair.one.input), outcome(&pair.other.input)];

@@ -9,7 +9,7 @@ mod facts;
 mod firsts;
 mod people;
 
-pub use facts::Facts;
+pub use facts::{Facts, Wanted, PFML};
 
 use crate::ack;
 use crate::alike::alike;
@@ -19,6 +19,14 @@ use crate::pieces;
 use crate::rng::Rng;
 use firsts::Firsts;
 use people::Roster;
+
+/// Two inputs that are made for the answers to be compared.
+pub trait Twin {
+    fn cases(&self) -> [&Case; 2];
+
+    /// Tells what is wrong with the two, or with the answers found for them.
+    fn check(&self, found: &[Outcome; 2]) -> Result<(), String>;
+}
 
 pub struct Pair {
     pub one: Case,
@@ -73,9 +81,12 @@ fn pair_from(rng: &mut Rng, case: Case) -> Option<Pair> {
 /// Demand 3 speaks of every length of the lent tables: some that are full sooner than the program's.
 const SHORT_TABLES: [(usize, usize); 4] = [(0, 9), (1, 1), (2, 9), (9, 1)];
 
-impl Pair {
-    /// Tells what is wrong with the pair, or with the answers found for it.
-    pub fn check(&self, found: &[Outcome; 2]) -> Result<(), String> {
+impl Twin for Pair {
+    fn cases(&self) -> [&Case; 2] {
+        [&self.one, &self.other]
+    }
+
+    fn check(&self, found: &[Outcome; 2]) -> Result<(), String> {
         let wrong = |what: &str| Err(format!("{what}: {} ({})", self.one.group, self.one.name));
         if self.one.input == self.other.input {
             return wrong("a pair of the same input twice");
@@ -123,11 +134,11 @@ mod tests {
 
     #[test]
     fn pairs_are_alike_and_get_one_answer() {
-        let mut facts = Facts::default();
+        let mut facts = Facts::of(&PFML);
         for pair in make(3, 3_000, SMALL) {
             let found = answers(&pair);
             assert_eq!(pair.check(&found), Ok(()));
-            facts.count(&pair, &found[0]);
+            facts.count(pair.cases(), &found[0]);
         }
         assert_eq!(facts.finish(), Ok(()));
     }

@@ -10,13 +10,28 @@ pub const MOST: usize = 65_535;
 const LONG: usize = 20_000;
 const LEAST_OF_LONG: usize = 4_096;
 
-/// Sizes at which reads end near the header's end, a record's end or its line end.
-const USUAL: [usize; 17] = [
-    1, 2, 6, 7, 8, 13, 289, 290, 291, 292, 293, 513, 514, 515, 583, 584, 1_000,
-];
+/// Sizes at which reads end near the header's end, or somewhere.
+const USUAL: [usize; 10] = [1, 2, 6, 7, 8, 13, 513, 514, 515, 1_000];
 
-/// A size for this input.
+/// The length of a record of PFML.
+const PFML: usize = 290;
+
+/// One of these, or a size at which reads end near a record's end, its line end, or those of two.
+fn usual(length: usize, rng: &mut Rng) -> usize {
+    match rng.below(17) {
+        place @ 0..=9 => USUAL[place as usize],
+        place @ 10..=14 => length + place as usize - 11,
+        place => 2 * length + place as usize - 12,
+    }
+}
+
+/// A size for this input, of PFML.
 pub fn size(rng: &mut Rng, input: &[u8]) -> usize {
+    size_for(PFML, rng, input)
+}
+
+/// A size for this input, whose records have this length.
+pub fn size_for(length: usize, rng: &mut Rng, input: &[u8]) -> usize {
     if input.len() > LONG {
         let any = rng.column(LEAST_OF_LONG, MOST);
         return rng.pick(&[LEAST_OF_LONG, LEAST_OF_LONG + 1, 8_192, MOST, any]);
@@ -25,16 +40,16 @@ pub fn size(rng: &mut Rng, input: &[u8]) -> usize {
         0 => MOST,
         1 => rng.column(1, MOST),
         2 => rng.column(1, 600),
-        3 => up_to_a_return(rng, input),
-        _ => rng.pick(&USUAL),
+        3 => up_to_a_return(length, rng, input),
+        _ => usual(length, rng),
     }
 }
 
 /// The first read ends right after a CR: an LF after it belongs to the same line end.
-fn up_to_a_return(rng: &mut Rng, input: &[u8]) -> usize {
+fn up_to_a_return(length: usize, rng: &mut Rng, input: &[u8]) -> usize {
     let returns: Vec<usize> = (0..input.len()).filter(|p| input[*p] == b'\r').collect();
     match returns.is_empty() {
-        true => rng.pick(&USUAL),
+        true => usual(length, rng),
         false => rng.pick(&returns) + 1,
     }
 }
@@ -53,7 +68,18 @@ mod tests {
     fn short_inputs_are_read_in_pieces_of_all_sizes() {
         let sizes = sizes_of(&[b' '; LONG]);
         assert!(sizes.iter().all(|size| (1..=MOST).contains(size)));
-        for wanted in USUAL.into_iter().chain([MOST]) {
+        let near_ends = [289, 290, 291, 292, 293, 583, 584];
+        for wanted in USUAL.into_iter().chain(near_ends).chain([MOST]) {
+            assert!(sizes.contains(&wanted), "{wanted}");
+        }
+    }
+
+    #[test]
+    fn reads_that_end_near_shorter_records() {
+        let sizes: Vec<usize> = (0..2_000)
+            .map(|k| size_for(275, &mut Rng::of(6, 0, k), &[b' '; LONG]))
+            .collect();
+        for wanted in [274, 275, 276, 277, 278, 553, 554] {
             assert!(sizes.contains(&wanted), "{wanted}");
         }
     }

@@ -8,10 +8,13 @@ use crate::build::{self, Built};
 use crate::calendar::Quarter;
 use crate::command::{Alteration, Command, Lent};
 use crate::edits::Refusal;
+use crate::exports;
+use crate::format::Format;
 use crate::frames;
 use crate::meaning::{Entry, Room};
 use crate::tables::Tables;
-use crate::walk::{self, Answer, Format, LineAnswer, State};
+use crate::walk::{Answer, LineAnswer, State};
+use crate::wham::{self, write::Given};
 use crate::words::{state_in, words_of, Words, COUNT};
 use crate::write::Written;
 
@@ -33,7 +36,7 @@ pub const MANY_EMPLOYERS: u64 = 65_535;
 /// The word of the employers.
 const EMPLOYERS: usize = 14;
 
-/// What stands in each byte of the slice that `R`, `F` or `B` lends.
+/// What stands in each byte of the slice that `R`, `H`, `F` or `B` lends.
 const UNWRITTEN: u8 = b'.';
 
 /// What is told for a word of the answer that is not lent.
@@ -69,7 +72,7 @@ impl Program {
         match command {
             Command::Open { format, held, lent } => {
                 let format = Format::named(*format);
-                Some(self.opening(*lent, |ids, list| walk::open(format, *held, ids, list)))
+                Some(self.opening(*lent, |ids, list| exports::open(format, *held, ids, list)))
             }
             Command::Whole {
                 format,
@@ -79,34 +82,46 @@ impl Program {
             } => {
                 let format = Format::named(*format);
                 Some(self.opening(*lent, |ids, list| {
-                    walk::whole(format, *held, ids, list, bytes)
+                    exports::whole(format, *held, ids, list, bytes)
                 }))
             }
             Command::Line { lent, bytes } => Some(self.call(*lent, |state, ids, list| {
-                walk::line(state, ids, list, bytes)
+                exports::line(state, ids, list, bytes)
             })),
             Command::End { lent } => Some(self.call(*lent, |state, ids, list| {
-                no_line(walk::end(state, ids, list))
+                no_line(exports::end(state, ids, list))
             })),
             Command::Beyond { more, bytes } => Some(self.beyond(*more, bytes)),
-            Command::Write { record, length } => Some(self.write(*record, *length)),
-            Command::Frames { entries, length } => Some(self.frames(*entries, *length)),
+            _ => self.leaving_all(command).or_else(|| {
+                self.set(command);
+                None
+            }),
+        }
+    }
+
+    /// The calls that leave state and tables as they are; none if it is no call.
+    fn leaving_all(&self, command: &Command) -> Option<Told> {
+        Some(match command {
+            Command::Write { record, length } => self.write(*record, *length),
+            Command::WriteWham {
+                record,
+                length,
+                given,
+            } => self.write_wham(*record, *length, *given),
+            Command::Frames { entries, length } => self.frames(*entries, *length),
             Command::Build {
                 record,
                 length,
                 values,
                 texts,
-            } => Some(self.build(*record, *length, values, texts)),
+            } => self.build(*record, *length, values, texts),
             Command::Field {
                 letter,
                 field,
                 line,
-            } => Some(self.field(*letter, *field, line)),
-            _ => {
-                self.set(command);
-                None
-            }
-        }
+            } => self.field(*letter, *field, line),
+            _ => return None,
+        })
     }
 
     /// The commands that alter what is kept, or what is lent.
@@ -187,7 +202,7 @@ impl Program {
         let mut state = state_in(self.lent_words(&words));
         let mut ids = [0; KEPT.ids];
         let mut list = vec![LONG_LIST_ENTRY; LONG_LIST];
-        let reply = reply(walk::line(&mut state, &mut ids, &mut list, bytes));
+        let reply = reply(exports::line(&mut state, &mut ids, &mut list, bytes));
         put_back(reply, &state, &mut words);
         let entries = printed_entries(&list[LONG_LIST_TOLD_FROM..]);
         self.told_with(reply, &words, format!("|{entries}"))
@@ -199,6 +214,14 @@ impl Program {
         let state = state_in(self.lent_words(&self.words));
         let reply = reply(no_line(record.write(&state, &mut slice)));
         self.told_of_slice(reply, 3, &slice)
+    }
+
+    /// The same of a record of an amended withholding file.
+    fn write_wham(&self, record: Written, length: usize, given: Given) -> Told {
+        let mut slice = vec![UNWRITTEN; length];
+        let state = state_in(self.lent_words(&self.words));
+        let answer = wham::write::write(record, &state, given, &mut slice);
+        self.told_of_slice(reply(no_line(answer)), 3, &slice)
     }
 
     /// The same with the bytes written in front of the buffer.

@@ -1,7 +1,8 @@
 //! Scripts for the program `tests/c/calls.c`, and what it must print.
 //!
 //! A script is made of scenes, each of a few commands that belong together: fixed ones, which come
-//! in every script that is long enough, and others by chance.
+//! in every script that is long enough, and others by chance. The scenes here are those of PFML;
+//! another format has its own.
 
 mod afterwards;
 mod broken;
@@ -24,14 +25,16 @@ mod writing;
 use crate::build::Built;
 use crate::calendar::Quarter;
 use crate::command::{plain, Alteration, Command, Lent};
+use crate::format::Format;
 use crate::layout::LENGTH;
 use crate::meaning::Room;
 use crate::program::{Program, KEPT};
 use crate::rng::Rng;
 use crate::tables::Tables;
 use crate::tally::Numbers;
-use crate::walk::{Format, State};
-use crate::words::{state_in, words_of, Words, FORMAT};
+use crate::walk::State;
+use crate::wham::write::Given;
+use crate::words::{state_in, words_of, Words};
 use crate::write::Written;
 use moments::Moment;
 
@@ -44,7 +47,7 @@ pub const PROMISED: [u8; 11] = [71, 72, 73, 80, 81, 82, 83, 84, 85, 87, 88];
 /// While there are fixed scenes left, so many of them come to each one by chance.
 const FIXED_TO_CHANCE: usize = 4;
 
-type Scene = Box<dyn Fn(&mut Rng, &mut Script)>;
+pub type Scene = Box<dyn Fn(&mut Rng, &mut Script)>;
 
 /// The commands so far, what is printed for them, and the program as they leave it.
 pub struct Script {
@@ -52,7 +55,7 @@ pub struct Script {
     pub told: Vec<u8>,
     pub numbers: Numbers,
     /// The number of the last answer.
-    answered: u8,
+    pub answered: u8,
     /// Calls of the walk so far. Those that write, build or read a field change nothing: they come
     /// on top.
     calls: u64,
@@ -60,28 +63,17 @@ pub struct Script {
     pub fixed_scenes_left: usize,
     program: Program,
     /// How much of the tables the calls to come are lent.
-    lent: Room,
+    pub lent: Room,
 }
 
 /// A script of so many calls of the walk or a few more, and the others among them.
 pub fn make(seed: u64, calls: u64) -> Script {
-    let mut rng = Rng::of(seed, 70, 0);
     let mut script = Script::new();
     // The program starts with a quarter that none allows.
     script.end();
     script.line(b"A\n");
     script.write(Written::T, LENGTH);
-    let mut fixed = fixed_scenes();
-    rng.shuffle(&mut fixed);
-    while script.calls < calls {
-        for _ in 0..FIXED_TO_CHANCE {
-            if let Some(scene) = fixed.pop() {
-                scene(&mut rng, &mut script);
-            }
-        }
-        chance::scene(&mut rng, &mut script);
-    }
-    script.fixed_scenes_left = fixed.len();
+    script.fill(seed, calls, fixed_scenes(), chance::scene);
     script
 }
 
@@ -103,13 +95,13 @@ fn fixed_scenes() -> Vec<Scene> {
 }
 
 /// A script's bytes may hold no end of a command; no edit tells `#` from `$`.
-fn without_ends(bytes: &[u8]) -> Vec<u8> {
+pub fn without_ends(bytes: &[u8]) -> Vec<u8> {
     let other = |byte: &u8| if *byte == b'#' { b'$' } else { *byte };
     bytes.iter().map(other).collect()
 }
 
 impl Script {
-    fn new() -> Script {
+    pub fn new() -> Script {
         Script {
             text: Vec::new(),
             told: Vec::new(),
@@ -120,6 +112,28 @@ impl Script {
             program: Program::new(),
             lent: KEPT,
         }
+    }
+
+    /// Adds scenes until there are so many calls of the walk: the fixed ones in some order, and
+    /// those by chance between them.
+    pub fn fill(
+        &mut self,
+        seed: u64,
+        calls: u64,
+        mut fixed: Vec<Scene>,
+        by_chance: fn(&mut Rng, &mut Script),
+    ) {
+        let mut rng = Rng::of(seed, 70, 0);
+        rng.shuffle(&mut fixed);
+        while self.calls < calls {
+            for _ in 0..FIXED_TO_CHANCE {
+                if let Some(scene) = fixed.pop() {
+                    scene(&mut rng, self);
+                }
+            }
+            by_chance(&mut rng, self);
+        }
+        self.fixed_scenes_left = fixed.len();
     }
 
     /// Writes a command, and has the program do what is written.
@@ -142,17 +156,17 @@ impl Script {
     }
 
     /// With the number of a format, or one that names none.
-    fn open_as(&mut self, format: u64, held: Quarter) {
+    pub fn open_as(&mut self, format: u64, held: Quarter) {
         let lent = self.lent;
         self.add(Command::Open { format, held, lent });
     }
 
-    fn line(&mut self, bytes: &[u8]) {
+    pub fn line(&mut self, bytes: &[u8]) {
         let (lent, bytes) = (self.lent, without_ends(bytes));
         self.add(Command::Line { lent, bytes });
     }
 
-    fn end(&mut self) {
+    pub fn end(&mut self) {
         let lent = self.lent;
         self.add(Command::End { lent });
     }
@@ -161,7 +175,7 @@ impl Script {
         self.whole_as(Format::Pfml.word(), held, bytes);
     }
 
-    fn whole_as(&mut self, format: u64, held: Quarter, bytes: &[u8]) {
+    pub fn whole_as(&mut self, format: u64, held: Quarter, bytes: &[u8]) {
         let (lent, bytes) = (self.lent, without_ends(bytes));
         self.add(Command::Whole {
             format,
@@ -171,16 +185,29 @@ impl Script {
         });
     }
 
-    fn beyond(&mut self, more: u64, bytes: &[u8]) {
+    pub fn beyond(&mut self, more: u64, bytes: &[u8]) {
         let bytes = without_ends(bytes);
         self.add(Command::Beyond { more, bytes });
     }
 
-    fn write(&mut self, record: Written, length: usize) {
+    pub fn write(&mut self, record: Written, length: usize) {
         self.add(Command::Write { record, length });
     }
 
-    fn frames(&mut self, entries: usize, length: usize) {
+    pub fn write_wham(&mut self, record: Written, length: usize, given: Given) {
+        // An F is given nothing.
+        let given = match record {
+            Written::T => given,
+            Written::F => Given::default(),
+        };
+        self.add(Command::WriteWham {
+            record,
+            length,
+            given,
+        });
+    }
+
+    pub fn frames(&mut self, entries: usize, length: usize) {
         self.add(Command::Frames { entries, length });
     }
 
@@ -202,18 +229,18 @@ impl Script {
         });
     }
 
-    fn word(&mut self, at: usize, number: u64) {
+    pub fn word(&mut self, at: usize, number: u64) {
         self.add(Command::Word { at, number });
     }
 
     /// What the calls to come are lent of state and answer.
-    fn lend(&mut self, lent: Lent) {
+    pub fn lend(&mut self, lent: Lent) {
         if lent != self.program.lent {
             self.add(Command::Lend(lent));
         }
     }
 
-    fn state(&self) -> State {
+    pub fn state(&self) -> State {
         state_in(&self.program.words)
     }
 
@@ -222,30 +249,40 @@ impl Script {
         Some(self.state()).filter(Command::tells)
     }
 
-    fn words(&self) -> Words {
+    pub fn words(&self) -> Words {
         self.program.words
     }
 
-    fn tables(&self) -> &Tables {
+    pub fn tables(&self) -> &Tables {
         &self.program.tables
     }
 
-    /// The columns of a command hold what PFML uses; the other words come one by one.
-    fn set_state(&mut self, state: State) {
+    /// The columns of a command hold what PFML uses, in numbers of some length; the other words come
+    /// one by one.
+    pub fn set_state(&mut self, state: State) {
         let words = words_of(&state);
         if words == self.program.words {
             return;
         }
-        self.add(Command::State(plain(&state)));
-        for (at, number) in words.into_iter().enumerate().skip(FORMAT) {
-            if number != 0 {
-                self.word(at, number);
+        let told = match Command::tells(&state) {
+            true => plain(&state),
+            false => State::opened(Quarter::default()),
+        };
+        self.add(Command::State(told));
+        self.set_words(&words);
+    }
+
+    /// Each word that is another one.
+    pub fn set_words(&mut self, words: &Words) {
+        for (at, number) in words.iter().enumerate() {
+            if self.program.words[at] != *number {
+                self.word(at, *number);
             }
         }
     }
 
     /// Alters the kept tables where they are not as these, as far as these go.
-    fn set_tables(&mut self, wanted: &Tables) {
+    pub fn set_tables(&mut self, wanted: &Tables) {
         let kept = self.tables();
         let ids = (0..wanted.ids.len()).filter(|p| kept.ids[*p] != wanted.ids[*p]);
         let entries = (0..wanted.list.len()).filter(|p| kept.list[*p] != wanted.list[*p]);
@@ -263,7 +300,7 @@ impl Script {
         }
     }
 
-    fn set(&mut self, moment: &Moment) {
+    pub fn set(&mut self, moment: &Moment) {
         self.set_tables(&moment.tables);
         self.set_state(moment.state);
     }

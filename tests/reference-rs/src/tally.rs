@@ -1,14 +1,15 @@
 //! What was made, counted by group and by answer.
 
+use crate::format::Format;
 use crate::gen::{Case, Meant};
-use crate::meaning::{Entry, Outcome};
+use crate::meaning::Outcome;
 use std::collections::BTreeMap;
 
-/// A number that is promised comes at least so often; where acceptance is, so does each kind of
-/// return among the employers of accepted files.
+/// A number that is promised comes at least so often; where acceptance is, so does each kind that
+/// accepted files have to show.
 pub const ENOUGH: u64 = 20;
 
-/// Every number that the program can answer; 0 stands for acceptance.
+/// Every number that the program of PFML can answer; 0 stands for acceptance.
 pub fn answers() -> impl Iterator<Item = u8> {
     (0..=8).chain(10..=20).chain(30..=65).chain([70])
 }
@@ -56,42 +57,37 @@ impl Numbers {
     }
 }
 
-/// The kinds of return, each with its flags: amended, final.
-const KINDS: [(&str, [u64; 2]); 4] = [
-    ("neither amended nor final", [0, 0]),
-    ("amended", [1, 0]),
-    ("final", [0, 1]),
-    ("amended and final", [1, 1]),
-];
-
-/// How many employers of accepted files had a return of each kind.
-#[derive(Default)]
-struct Kinds([u64; 4]);
+/// How often accepted files showed each of the kinds that a format has to show.
+struct Kinds {
+    names: Vec<&'static str>,
+    times: Vec<u64>,
+}
 
 impl Kinds {
-    fn count(&mut self, entry: &Entry) {
-        let flags = [entry.amended, entry.final_return];
-        let place = KINDS.iter().position(|(_, kind)| *kind == flags);
-        self.0[place.expect("flags are 0 or 1")] += 1;
+    fn of(format: Format) -> Kinds {
+        let names = format.kinds();
+        let times = vec![0; names.len()];
+        Kinds { names, times }
+    }
+
+    fn count(&mut self, shown: &[usize]) {
+        shown.iter().for_each(|kind| self.times[*kind] += 1);
     }
 
     fn each(&self) -> impl Iterator<Item = (&'static str, u64)> + '_ {
-        KINDS
-            .iter()
-            .zip(self.0)
-            .map(|((name, _), times)| (*name, times))
+        self.names.iter().copied().zip(self.times.iter().copied())
     }
 
     fn check(&self) -> Result<(), String> {
         match self.each().find(|(_, times)| *times < ENOUGH) {
-            Some((name, times)) => Err(format!("returns {name}: {times}, fewer than {ENOUGH}")),
+            Some((name, times)) => Err(format!("{name}: {times}, fewer than {ENOUGH}")),
             None => Ok(()),
         }
     }
 }
 
-#[derive(Default)]
 pub struct Tally {
+    format: Format,
     bytes: u64,
     kinds: Kinds,
     numbers: Numbers,
@@ -100,12 +96,24 @@ pub struct Tally {
 }
 
 impl Tally {
+    pub fn of(format: Format) -> Tally {
+        Tally {
+            format,
+            bytes: 0,
+            kinds: Kinds::of(format),
+            numbers: Numbers::default(),
+            groups: BTreeMap::new(),
+            otherwise_than_meant: 0,
+        }
+    }
+
     pub fn count(&mut self, case: &Case, outcome: &Outcome) {
         let number = number_of(outcome);
         self.bytes += case.input.len() as u64;
         self.numbers.count(number);
         if let Outcome::Accepted(accepted) = outcome {
-            accepted.entries.iter().for_each(|e| self.kinds.count(e));
+            self.kinds
+                .count(&self.format.kinds_in(&case.input, accepted));
         }
         self.groups.entry(case.group).or_default().count(number);
         if !is_as_meant(case.meant, outcome) {
@@ -134,7 +142,7 @@ impl Tally {
         }
         println!("\n{} bytes of input", self.bytes);
         for (name, times) in self.kinds.each() {
-            println!("{times} employers accepted with returns {name}");
+            println!("{times} accepted: {name}");
         }
         println!("{} otherwise than meant", self.otherwise_than_meant);
     }
@@ -172,24 +180,18 @@ mod tests {
     }
 
     #[test]
-    fn nineteen_returns_of_a_kind_are_too_few() {
-        let mut kinds = Kinds::default();
-        for (_, [amended, final_return]) in KINDS {
-            for _ in 0..19 {
-                kinds.count(&Entry::plain(1, 0, 0).of_kind(amended, final_return, 0));
+    fn nineteen_of_a_kind_are_too_few() {
+        for format in [Format::Pfml, Format::WHAM_2024] {
+            let mut kinds = Kinds::of(format);
+            let all: Vec<usize> = (0..kinds.names.len()).collect();
+            (0..19).for_each(|_| kinds.count(&all));
+            for kind in all {
+                let wanted = format!("{}: 19, fewer than 20", kinds.names[kind]);
+                assert_eq!(kinds.check(), Err(wanted));
+                kinds.count(&[kind]);
             }
+            assert_eq!(kinds.check(), Ok(()));
         }
-        for (amended, final_return, told) in [
-            (0, 0, "neither amended nor final"),
-            (1, 0, "amended"),
-            (0, 1, "final"),
-            (1, 1, "amended and final"),
-        ] {
-            let wanted = format!("returns {told}: 19, fewer than 20");
-            assert_eq!(kinds.check(), Err(wanted));
-            kinds.count(&Entry::plain(1, 0, 0).of_kind(amended, final_return, 0));
-        }
-        assert_eq!(kinds.check(), Ok(()));
     }
 
     #[test]

@@ -6,6 +6,7 @@ mod calls;
 mod examples;
 mod generated;
 mod kinds;
+mod wham;
 mod writing;
 
 use crate::calendar::Quarter;

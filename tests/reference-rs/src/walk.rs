@@ -1,11 +1,13 @@
 //! A model of the calls: opening, one line, end, and the whole file in one slice, on every state
 //! and every pair of tables, altered ones too. It says what each call answers, what state it leaves
-//! and what it leaves in the tables.
+//! and what it leaves in the tables. The state is that of all formats; the calls here are those of
+//! PFML, and of a format that is none (`exports` has all).
 //!
 //! Readings of open points are numbered as in docs/DECISIONS.md ("How the paper is read").
 
 use crate::calendar::{ends_quarter, Period, Quarter};
 use crate::edits::{edit_input_end, edit_line, Before, Phase, Record, Refusal, MOST_S};
+use crate::format::Format;
 use crate::layout;
 use crate::lines::first_line;
 use crate::meaning::{Entry, MOST_EMPLOYERS};
@@ -14,31 +16,6 @@ use crate::meaning::{Entry, MOST_EMPLOYERS};
 pub const MOST_LINES: u64 = 231_074;
 /// The most that 14 columns hold.
 pub const MOST_WAGES: u128 = 99_999_999_999_999;
-
-/// The format of a file. It is named at opening, by its number, and kept (include/wage.h).
-#[derive(Clone, Copy, Debug, PartialEq, Eq)]
-pub enum Format {
-    Pfml,
-    /// Every number that names none.
-    Unknown,
-}
-
-impl Format {
-    pub fn named(number: u64) -> Format {
-        match number {
-            0 => Format::Pfml,
-            _ => Format::Unknown,
-        }
-    }
-
-    /// The word that a state has for it.
-    pub fn word(self) -> u64 {
-        match self {
-            Format::Pfml => 0,
-            Format::Unknown => 255,
-        }
-    }
-}
 
 /// Where a walk stands (19: "The phase is one of seven").
 #[derive(Clone, Copy, Debug, PartialEq, Eq)]
@@ -57,13 +34,13 @@ pub struct OpenE {
     pub s: u64,
     pub cents: u64,
     pub ids_in_use: u64,
-    pub unused: UnusedOfE,
+    pub more: MoreOfE,
 }
 
-/// The open E's numbers that PFML uses none of: its second sum, its other records, the nearest
-/// number, whether a note was seen, and its account.
+/// What other formats keep of an open E, and PFML uses none of: its second sum, its other records,
+/// the nearest number, whether a note was seen, and its account.
 #[derive(Clone, Copy, Debug, Default, PartialEq, Eq)]
-pub struct UnusedOfE {
+pub struct MoreOfE {
     pub second: u64,
     pub others: u64,
     pub nearest: u64,
@@ -71,9 +48,10 @@ pub struct UnusedOfE {
     pub account: [u64; 2],
 }
 
-/// The file's numbers that PFML uses none of: its second sum, its other records, its notes.
+/// What other formats keep of a file, and PFML uses none of: its second sum, its other records, its
+/// notes.
 #[derive(Clone, Copy, Debug, Default, PartialEq, Eq)]
-pub struct Unused {
+pub struct MoreOfFile {
     pub second: u64,
     pub others: u64,
     pub notes: u64,
@@ -91,7 +69,7 @@ pub struct State {
     pub s: u64,
     pub cents: u64,
     pub open: OpenE,
-    pub unused: Unused,
+    pub more: MoreOfFile,
 }
 
 /// What a line call answers: the bytes taken, or a refusal and "0 if refused".
@@ -117,7 +95,7 @@ impl State {
             s: 0,
             cents: 0,
             open: OpenE::default(),
-            unused: Unused::default(),
+            more: MoreOfFile::default(),
         }
     }
 
@@ -150,6 +128,7 @@ pub fn open(format: Format, held: Quarter, ids: &mut [u32], list: &mut [Entry]) 
     let number = match format {
         _ if !held.may_be_held() => 70,
         Format::Unknown => 73,
+        Format::Wham(_) => unreachable!("it has a walk of its own"),
         Format::Pfml => {
             zero_both(ids, list);
             return (State::opened(held), None);
@@ -300,7 +279,7 @@ fn unfit_open_e(state: &State, id_table: usize) -> bool {
 fn unfit_standing(state: &State) -> bool {
     if let Standing::Refused(refusal) = state.standing {
         // "a refused walk's number is none that a refusal leaves in the state"
-        return !is_left_by_a_refusal(refusal.number);
+        return !is_left_by_a_refusal(state.format, refusal.number);
     }
     // "in a walk not refused, the quarter held, or A's once A is read, is none that this paper
     // allows"
@@ -321,9 +300,16 @@ fn is_of_an_opening(number: u8) -> bool {
     matches!(number, 70 | 73)
 }
 
-/// The numbers of the table that end a walk or its opening, 64, 65 and 73.
-pub fn is_left_by_a_refusal(number: u8) -> bool {
-    matches!(number, 1..=8 | 10..=20 | 30..=65) || is_of_an_opening(number)
+/// The numbers of the table that end a walk or its opening, 64 and 65; and 73, which an opening
+/// leaves with a format that is none.
+pub fn is_left_by_a_refusal(format: Format, number: u8) -> bool {
+    let by_an_edit = matches!(number, 1..=8 | 10..=20 | 30..=65);
+    number == 70
+        || if format == Format::Unknown {
+            number == 73
+        } else {
+            by_an_edit
+        }
 }
 
 /// 18: "if A's edits pass it: from 2025 on, a quarter's month, closed or current".

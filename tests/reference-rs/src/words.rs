@@ -4,16 +4,17 @@
 use crate::calendar::Quarter;
 use crate::command::{refusal_held, standing_number, PHASES};
 use crate::edits::Refusal;
-use crate::walk::{Format, OpenE, Standing, State, Unused, UnusedOfE};
+use crate::format::Format;
+use crate::walk::{MoreOfE, MoreOfFile, OpenE, Standing, State};
 
 pub const COUNT: usize = 27;
-/// The place of the format, the first word after those that a walk over PFML uses.
+/// The place of the format; those after it are used by other formats than PFML.
 pub const FORMAT: usize = 17;
 pub type Words = [u64; COUNT];
 
 pub fn words_of(state: &State) -> Words {
     let refusal = refusal_held(state.standing);
-    let (of_e, of_file) = (&state.open.unused, &state.unused);
+    let (of_e, of_file) = (&state.open.more, &state.more);
     [
         standing_number(state.standing),
         refusal.number.into(),
@@ -68,7 +69,7 @@ fn told(words: &[u64]) -> Option<State> {
             s: words[11],
             cents: words[12],
             ids_in_use: words[16],
-            unused: UnusedOfE {
+            more: MoreOfE {
                 second: words[18],
                 others: words[19],
                 nearest: words[20],
@@ -79,7 +80,7 @@ fn told(words: &[u64]) -> Option<State> {
         s: words[13],
         employers: words[14],
         cents: words[15],
-        unused: Unused {
+        more: MoreOfFile {
             second: words[24],
             others: words[25],
             notes: words[26],
@@ -105,19 +106,19 @@ fn refusal_in(words: &Words) -> Option<Refusal> {
     Some(Refusal::new(number, line, words[3].min(u16::MAX.into())))
 }
 
-/// The numbers of refusals in the papers: those of document 01's table, and 73, 84 and 85 of
+/// The numbers of refusals in the papers: those of document 01's table, and 73, 84, 85, 90 and 91 of
 /// document 02.
 pub fn is_listed(number: u8) -> bool {
-    matches!(number, 1..=8 | 10..=20 | 30..=65 | 70..=73 | 80..=85)
+    matches!(number, 1..=8 | 10..=20 | 30..=65 | 70..=73 | 80..=85 | 90 | 91)
 }
 
 #[cfg(test)]
 mod tests {
     use super::*;
+    use crate::exports::unfit;
     use crate::rng::Rng;
     use crate::scripts::moments::in_each_phase;
     use crate::scripts::near;
-    use crate::walk::unfit;
 
     #[test]
     fn a_state_comes_back() {
@@ -150,7 +151,8 @@ mod tests {
             (2, u64::MAX, true),
             (4, (1 << 32) + 5, false),
             (16, (1 << 32) + 1, false),
-            (17, 1, false),
+            (17, 1, true),
+            (17, 2, false),
             (17, 255, false),
             (17, 1 << 32, false),
             (17, u64::MAX, false),
@@ -174,7 +176,7 @@ mod tests {
         for number in 0..1_000 {
             words[1] = number;
             for (format, left) in [
-                (0, matches!(number, 1..=8 | 10..=20 | 30..=65 | 70 | 73)),
+                (0, matches!(number, 1..=8 | 10..=20 | 30..=65 | 70)),
                 (9, matches!(number, 70 | 73)),
                 (255, matches!(number, 70 | 73)),
             ] {

@@ -4,8 +4,10 @@
 //! A writing call is lent no table and changes no state.
 
 use crate::edits::{Phase, Refusal};
+use crate::exports::unfit;
+use crate::format::Format;
 use crate::layout::LENGTH;
-use crate::walk::{unfit, Answer, OpenE, Standing, State};
+use crate::walk::{Answer, OpenE, Standing, State};
 
 /// "A table the call isn't lent isn't compared": no count exceeds this length. That more than
 /// 65,536 employers are unfit goes by no table.
@@ -49,7 +51,7 @@ pub fn write_t(state: &State, slice: &mut [u8]) -> Answer {
     let answer = first_that_holds(&[
         (unfit(state, NOT_LENT, NOT_LENT), 72),
         (slice.len() != LENGTH, 83),
-        (state.standing != Standing::Among(Phase::EOpen), 80),
+        (!stands(state, Phase::EOpen), 80),
         (open.says_s_follow && open.s == 0, 81),
         (open.cents >= TOO_MUCH_FOR_T, 82),
     ]);
@@ -65,7 +67,7 @@ pub fn write_f(state: &State, slice: &mut [u8]) -> Answer {
     let answer = first_that_holds(&[
         (unfit(state, NOT_LENT, NOT_LENT), 72),
         (slice.len() != LENGTH, 83),
-        (state.standing != Standing::Among(Phase::AfterT), 80),
+        (!stands(state, Phase::AfterT), 80),
         (state.cents >= TOO_MUCH_FOR_F, 82),
     ]);
     if answer.is_none() {
@@ -74,8 +76,13 @@ pub fn write_f(state: &State, slice: &mut [u8]) -> Answer {
     answer
 }
 
+/// T and F here are those of PFML: in a walk of another format neither can stand.
+fn stands(state: &State, phase: Phase) -> bool {
+    state.format == Format::Pfml && state.standing == Standing::Among(phase)
+}
+
 /// The number of the first rule that holds: "71, 72 and 80 to 83 give line 0, column 0."
-fn first_that_holds(rules: &[(bool, u8)]) -> Answer {
+pub fn first_that_holds(rules: &[(bool, u8)]) -> Answer {
     let (_, number) = rules.iter().find(|(holds, _)| *holds)?;
     Some(Refusal::new(*number, 0, 0))
 }

@@ -7,5 +7,5 @@ pub employers-size-spec : {M : Type 1} → statement M
 employers-size-spec =
     tie.close
     (tie.spec
-    (λ c. search needs) (λ c. search needs) (λ c. search needs) (λ c. search needs)
-    (λ c. rw (c .enum-told .given .1)) (λ c. rw (c .enum-told2 .given .1)))
+    (λ c. search needs) (λ c. search needs) (λ c. search needs) (λ c. search needs) (λ c. search needs) (λ c. search needs)
+    (λ c. rw (c .enum-told .given .1)) (λ c. rw (c .enum-told2 .given .1)) (λ c. rw (c .enum-told3 .given .1)))

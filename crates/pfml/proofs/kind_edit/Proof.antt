@@ -3,19 +3,20 @@ use mathlib.Core.Path.{sym, ap, _∙_}
 use borrow.Author.Needs.{needs}
 use Rattle.chars.specs.Characters.{capitals}
 use Rattle.reason.specs.ReasonNumbers.{findingOf}
-use Rattle.pfml.specs.TextParts.{head-breaks, head-passes}
+use Rattle.shape.specs.HeadLaws.{head-breaks, head-passes}
+use Rattle.pfml.specs.Edits.{headEdits}
 use Rattle.pfml.proofs.kind_edit.Statement.{statement}
 use Rattle.pfml.proofs.kind_edit.Tie as tie
 
 returns : tie.Need-returns
 returns c = let a = c .before .before .before .before .args in
     let told = ap findingOf (c .enum-told .given .1) in
-    told ∙ sym (head-breaks (a .here) (a .seen) (capitals (a .line .now)) (a .kind) _ _ (sym (c .before .before .head-edit .ensures) ∙ told))
+    told ∙ sym (head-breaks (headEdits (a .here) (capitals (a .line .now)) (a .kind)) _ _ _ (sym (c .before .before .head-edit .ensures) ∙ told))
 
 returns-2 : tie.Need-returns-2
 returns-2 c = let a = c .before .before .before .before .before .args in
     c .fields-edit .ensures
-    ∙ sym (head-passes (a .here) (a .seen) (capitals (a .line .now)) (a .kind) (sym (c .before .before .before .head-edit .ensures) ∙ ap findingOf (c .before .enum-told2 .given .1)))
+    ∙ sym (head-passes (headEdits (a .here) (capitals (a .line .now)) (a .kind)) _ (sym (c .before .before .before .head-edit .ensures) ∙ ap findingOf (c .before .enum-told2 .given .1)))
 
 pub kind-edit-spec : {M : Type 1} → statement M
 kind-edit-spec =

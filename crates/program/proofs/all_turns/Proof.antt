@@ -69,13 +69,16 @@ held-val = LL.val R.the-type R′.the-laws
 
 -- their parts
 abbrev between-parts : Tys
-between-parts = tcons (tyInt w64) (tcons (tyInt w64) (tcons (tyInt w64) (tcons (tyInt w64) (tcons P′.mir tnil))))
+between-parts = tcons (tyInt w64) (tcons (tyInt w64) (tcons (tyInt w64) (tcons (tyInt w64) (tcons Fo′.mir (tcons P′.mir tnil)))))
 
 abbrev turns-in : Field
 turns-in = record { parts = between-parts; number = 1; type = tyInt w64; at = 8; stands = refl }
 
+abbrev format-in : Field
+format-in = record { parts = between-parts; number = 4; type = Fo′.mir; at = 32; stands = refl }
+
 abbrev standing-in : Field
-standing-in = record { parts = between-parts; number = 4; type = P′.mir; at = 32; stands = refl }
+standing-in = record { parts = between-parts; number = 5; type = P′.mir; at = 40; stands = refl }
 
 abbrev held-parts : Tys
 held-parts = tcons (tyInt w64) (tcons (tyInt w64) (tcons tyBool (tcons tyBool tnil)))
@@ -185,8 +188,8 @@ module _ {M : Type 1} (𝓤 : URA M) (H : Heap 𝓤) (A : Atoms 𝓤) (W : Given
   turned k₀ k fewer h h-is within =
       relends-front ! 58 36 34 (LL.owed R.the-type R′.the-laws h _ h-is .0 .1) refl refl refl refl refl (part ! 48 bytes-in refl refl) refl refl $
       relends ! 56 32 30 (room₁ .0) refl refl refl refl refl refl refl refl $ relends ! 54 28 26 (room₂ .0) refl refl refl refl refl refl refl refl $
-      calls-turn mem run fm L (k .lists) ! known-turn format format-is (k .at .progress) (LL.owed B.the-type B′.the-laws (k .at) _ (k .at-ok) .1 .1 .1 .1 .0) (h .bytes) within (h .ended)
-      (λ ν₀ ν₁ ν₂ γ δ₁ δ₂. and-then ! (var ! 65 refl) (and-then ! (part ! 53 standing-in refl refl) (and-then ! (var ! 37 refl) (and-then ! (part ! 51 ended-in refl refl) (and-then ! (var ! 33 refl) (and-then ! (var ! 29 refl) (no-more !)))))))
+      calls-turn mem run fm L (k .lists) ! known-turn (k .at .format) (LL.owed B.the-type B′.the-laws (k .at) _ (k .at-ok) .1 .1 .1 .1 .0) (k .at .progress) (LL.owed B.the-type B′.the-laws (k .at) _ (k .at-ok) .1 .1 .1 .1 .1 .0) (h .bytes) within (h .ended)
+      (λ ν₀ ν₁ ν₂ γ δ₁ δ₂. and-then ! (part ! 53 format-in refl refl) (and-then ! (part ! 53 standing-in refl refl) (and-then ! (var ! 37 refl) (and-then ! (part ! 51 ended-in refl refl) (and-then ! (var ! 33 refl) (and-then ! (var ! 29 refl) (no-more !)))))))
       (λ u u-is l.
       receives ! 46 refl (LL.lawful U.the-type U′.the-laws 𝓤 H A W .typed u _ u-is .0) $ forget ! 26 refl $ forget ! 28 refl $ forget ! 30 refl $ forget ! 32 refl $ forget ! 34 refl $ forget ! 36 refl $
       framed k₀ (with k l) fewer h h-is u u-is)
@@ -208,7 +211,8 @@ module _ {M : Type 1} (𝓤 : URA M) (H : Heap 𝓤) (A : Atoms 𝓤) (W : Given
 
   walk : Sq W (Having L (at-first L) (locals En (none ∷ some (format-val format) ∷ some (telling-val telling) ∷ some s₀ ∷ some s₁ ∷ some s₂ ∷ some s₃ ∷ []) [])) (runs (𝓣 .C) (𝓣 .Λ) En (code.function .body) (atRet En Post))
   walk =
-      asks ! (start W mem run) known-start fm ((tt, tt, tt, (telling, tt), (telling-val telling ∷ [], tt)), tt) tt 0 (made (EL.makes Te.the-type Te′.the-plain 𝓤 H A telling _ telling-is), tt) refl (and-then ! (var ! 60 refl) (no-more !)) (λ at _ _ at-is.
+      asks ! (start W mem run) known-start fm ((tt, tt, tt, (format, (telling, tt)), (format-val format ∷ [], (telling-val telling ∷ [], tt))), tt) tt
+      0 (made (EL.makes Fo.the-type Fo′.the-plain 𝓤 H A format _ format-is), (made (EL.makes Te.the-type Te′.the-plain 𝓤 H A telling _ telling-is), tt)) refl (and-then ! (var ! 62 refl) (and-then ! (var ! 60 refl) (no-more !))) (λ at _ _ at-is.
       receives ! 50 refl (LL.lawful B.the-type B′.the-laws 𝓤 H A W .typed at _ at-is .0) $ first ! $ blocks ! $ loops ! 𝓣 (Nearer left) (nearer-wf left) At turns (record { at = at; at-ok = at-is; lists = at-first L }))
 
 pub all-turns-spec : {M : Type 1} → stated.statement M

@@ -23,4 +23,5 @@ reason-of-spec =
     (λ c. has-number (c .match .keys53)) (λ c. has-number (c .match .keys54)) (λ c. has-number (c .match .keys55)) (λ c. has-number (c .match .keys56))
     (λ c. has-number (c .match .keys57)) (λ c. has-number (c .match .keys58)) (λ c. has-number (c .match .keys59)) (λ c. has-number (c .match .keys60))
     (λ c. has-number (c .match .keys61)) (λ c. has-number (c .match .keys62)) (λ c. has-number (c .match .keys63))
-    (λ c. has-number (c .match .keys64)) (λ c. has-number (c .match .keys65)) (λ c. no-number (c .before .args .number) (c .match .rest)))
+    (λ c. has-number (c .match .keys64)) (λ c. has-number (c .match .keys65)) (λ c. has-number (c .match .keys66))
+    (λ c. no-number (c .before .args .number) (c .match .rest)))

@@ -13,8 +13,14 @@ returns c =
 
 returns-2 : tie.Need-returns-2
 returns-2 c =
+    let a = c .before .before .before .args in
+    c .quarter-unfit2 .ensures ∙ ap (λ (f : Format). shapeOf f .quarterUnfit (a .phase) (a .held) (a .filed)) (sym (c .before .enum-told2 .given .1))
+
+returns-3 : tie.Need-returns-3
+returns-3 c =
     let a = c .before .before .args in
-    ap (λ (f : Format). shapeOf f .quarterUnfit (a .phase) (a .held) (a .filed)) (sym (c .enum-told2 .given .1))
+    ap (λ (f : Format). shapeOf f .quarterUnfit (a .phase) (a .held) (a .filed)) (sym (c .enum-told3 .given .1))
 
 pub quarter-unfit-spec : {M : Type 1} → statement M
-quarter-unfit-spec = tie.close (tie.spec (λ c. search needs) (λ c κs. search needs) (λ c. search needs) returns returns-2)
+quarter-unfit-spec =
+    tie.close (tie.spec (λ c. search needs) (λ c κs. search needs) (λ c. search needs) (λ c κs. search needs) (λ c. search needs) returns returns-2 returns-3)

@@ -9,7 +9,7 @@ returns c =
     let told = c .before .before in
     let numbers = told .before .before in
     let wrote = numbers .before .before .before in
-    has-record _ _ _ _ (wrote .build-e .result) _ _ (numbers .wrote-numbers .ensures) (wrote .build-e .ensures) (told .tell-numbers .ensures)
+    has-record _ _ _ _ _ (wrote .build-e .result) _ _ (numbers .wrote-numbers .ensures) (wrote .build-e .ensures) (told .tell-numbers .ensures)
 
 pub wage-build-e-spec : {M : Type 1} → statement M
 wage-build-e-spec =

@@ -14,7 +14,7 @@ returns c =
     let wrote = numbers .before .before .before in
     let read = wrote .before .before in
     let args = read .before .before .before .before .args in
-    has-record _ _ _ _ (wrote .write-f .result) _ _ (numbers .wrote-numbers .ensures)
+    has-record _ _ _ _ _ (wrote .write-f .result) _ _ (numbers .wrote-numbers .ensures)
     (wrote .write-f .ensures ∙ ap (λ (walk : Walk). finalWriting walk (args .out .now)) (read .state-in .ensures)) (told .tell-numbers .ensures)
 
 pub wage-write-f-spec : {M : Type 1} → statement M

@@ -14,7 +14,7 @@ returns c =
     let wrote = numbers .before .before .before in
     let read = wrote .before .before in
     let args = read .before .before .before .before .args in
-    has-record _ _ _ _ (wrote .write-t .result) _ _ (numbers .wrote-numbers .ensures)
+    has-record _ _ _ _ _ (wrote .write-t .result) _ _ (numbers .wrote-numbers .ensures)
     (wrote .write-t .ensures ∙ ap (λ (walk : Walk). totalWriting walk (args .out .now)) (read .state-in .ensures)) (told .tell-numbers .ensures)
 
 pub wage-write-t-spec : {M : Type 1} → statement M

@@ -9,9 +9,9 @@ returns : tie.Need-returns
 returns c = rw (c .before .enum-told .given .1) (c .fine .ensures)
 
 returns-2 : tie.Need-returns-2
-returns-2 c = c .refused .ensures ∙ none-written _ _ (c .before .before .wrote .given .1)
+returns-2 c = c .refused .ensures ∙ none-written _ _ _ (c .before .before .wrote .given .1)
 
 pub wrote-numbers-spec : {M : Type 1} → statement M
 wrote-numbers-spec =
     tie.close
-    (tie.spec (λ c. search needs) (λ c. search needs) (λ c κs. search needs) (λ c. search needs) (λ c κs. search needs) returns returns-2)
+    (tie.spec (λ c. search needs) (λ c κs. search needs) (λ c. search needs) (λ c κs. search needs) returns returns-2)

@@ -7,7 +7,7 @@ use Rattle.write.specs.WritingLaws.{writes, leaves, written-length}
 put-requires : tie.Need-put-t-requires
 put-requires c κs =
     let told = c .before in
-    written-length _ _ _ _ _ _ (told .before .before .answer-t .ensures) (told .enum-told2 .given .1)
+    written-length 290 _ _ _ _ _ _ (told .before .before .answer-t .ensures) (told .enum-told2 .given .1)
 
 returns : tie.Need-returns
 returns c = leaves _ _ (c .before .before .answer-t .ensures) _ _ _ (c .enum-told .given .1)

@@ -47,8 +47,8 @@ fn codes(list: &mut List) {
     }
 }
 
-/// ZIP codes that are good in a state, good in a province, and good in neither.
-const ZIPS: [&[&[u8; 5]]; 3] = [
+/// ZIP codes that are good in a state, good in a province, and good in neither; in all formats.
+pub const ZIPS: [&[&[u8; 5]]; 3] = [
     &[b"04332", b"00000", b"99999"],
     &[b"K1A 0", b"k1a 0", b"A9A 9", b"Z0Z 9", b"a0z 0"],
     &[
@@ -77,7 +77,7 @@ fn zip_codes(list: &mut List) {
 }
 
 /// The same of extensions.
-const EXTENSIONS: [&[&[u8; 5]]; 3] = [
+pub const EXTENSIONS: [&[&[u8; 5]]; 3] = [
     &[b"     ", b"-1061", b"-0000", b"-9999"],
     &[b"B1   ", b"b1   ", b"Z9   ", b"a0   "],
     &[

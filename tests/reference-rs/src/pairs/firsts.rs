@@ -70,6 +70,7 @@ impl Iterator for Firsts {
 mod tests {
     use super::*;
     use crate::ack::outcome;
+    use crate::format::Format;
     use crate::tally::Tally;
 
     /// The maker of each crowded file knows what it gets.
@@ -83,7 +84,7 @@ mod tests {
         let some = Firsts::new(2, options).take((ROUND * breaks) as usize);
         let crowds: Vec<Case> = some.filter(|case| case.group == "crowd").collect();
         assert_eq!(crowds.len() as u64, 2 * breaks);
-        let mut tally = Tally::default();
+        let mut tally = Tally::of(Format::Pfml);
         for case in crowds {
             assert_ne!(case.meant, Meant::Unsaid);
             tally.count(&case, &outcome(&case.input));

@@ -2,6 +2,7 @@
 
 use crate::alike::{columns, is_identity, is_name, is_record, value};
 use crate::alike::{HEADER, IDENTITY, NAMES, WAGES};
+use crate::amounts::moved;
 use crate::draft::{put, put_number, random_id, random_name, random_wages, MOST_WAGES};
 use crate::rng::Rng;
 use std::collections::HashSet;
@@ -111,7 +112,7 @@ impl Roster {
     /// Other wages: of the same total under each employer, and any under none.
     pub fn move_wages(&self, rng: &mut Rng, input: &mut [u8]) {
         for team in &self.teams {
-            let wages = moved(rng, &numbers(input, team, WAGES));
+            let wages = moved(rng, &numbers(input, team, WAGES), MOST_WAGES);
             put_numbers(input, team, WAGES, &wages);
         }
         for start in &self.strays {
@@ -190,53 +191,6 @@ fn renumbered(rng: &mut Rng, ids: &[u64], known: &[u64]) -> Vec<u64> {
         new
     };
     ids.iter().map(&mut renumber).collect()
-}
-
-/// Wages of the same total.
-fn moved(rng: &mut Rng, wages: &[u64]) -> Vec<u64> {
-    let mut new = wages.to_vec();
-    match rng.below(5) {
-        0 => rng.shuffle(&mut new),
-        1 if !new.is_empty() => move_some(rng, &mut new),
-        _ => {
-            new = dealt(
-                rng,
-                wages.iter().copied().map(u128::from).sum(),
-                wages.len(),
-            )
-        }
-    }
-    new
-}
-
-/// From one to another, a cent or more.
-fn move_some(rng: &mut Rng, wages: &mut [u64]) {
-    let (from, to) = (rng.index(wages.len()), rng.index(wages.len()));
-    let most = wages[from].min(MOST_WAGES - wages[to]);
-    let any = rng.between(0, most);
-    let amount = rng.pick(&[any, most, most.min(1)]);
-    wages[from] -= amount;
-    wages[to] += amount;
-}
-
-/// So many wages of this total, all that their columns can hold.
-fn dealt(rng: &mut Rng, total: u128, count: usize) -> Vec<u64> {
-    let mut left = total;
-    let mut wages = Vec::new();
-    for behind in (0..count as u128).rev() {
-        // At least so much that the rest of them can hold the rest of it.
-        let least = left.saturating_sub(behind * u128::from(MOST_WAGES)) as u64;
-        let most = left.min(MOST_WAGES.into()) as u64;
-        let twice_a_share = (2 * left / (behind + 1)) as u64;
-        let any = rng.between(least, most);
-        let near_a_share = rng.between(least, twice_a_share.clamp(least, most));
-        let one = rng.pick(&[least, most, any, near_a_share, near_a_share, near_a_share]);
-        left -= u128::from(one);
-        wages.push(one);
-    }
-    assert_eq!(left, 0, "the columns hold the total");
-    rng.shuffle(&mut wages);
-    wages
 }
 
 #[cfg(test)]
@@ -333,20 +287,6 @@ mod tests {
             last_ones.insert([a, b, c].iter().position(|id| *id == new[7]));
         }
         assert_eq!(last_ones.len(), 3);
-    }
-
-    #[test]
-    fn wages_keep_their_total() {
-        let most = MOST_WAGES;
-        let all: [&[u64]; 6] = [&[], &[7], &[1, 2, 3], &[0, 0], &[most, 0, 5], &[most; 4]];
-        for wages in all {
-            for k in 0..200 {
-                let new = moved(&mut Rng::of(4, 0, k), wages);
-                assert_eq!(new.len(), wages.len());
-                assert!(new.iter().all(|one| *one <= most));
-                assert_eq!(new.iter().sum::<u64>(), wages.iter().sum::<u64>());
-            }
-        }
     }
 
     #[test]

@@ -11,7 +11,7 @@ use crate::edits::Refusal;
 use crate::meaning::Room;
 use crate::program::KEPT;
 use crate::rng::Rng;
-use crate::walk::{OpenE, Standing, UnusedOfE};
+use crate::walk::{MoreOfE, OpenE, Standing};
 
 const NONE: Room = Room {
     ids: 0,
@@ -82,7 +82,7 @@ fn refused_state_with_other_numbers(rng: &mut Rng, script: &mut Script, number: 
         s: rng.below(9_999_999_999),
         cents: rng.next() >> 2,
         ids_in_use: 50,
-        unused: UnusedOfE {
+        more: MoreOfE {
             second: rng.next(),
             others: rng.next(),
             nearest: rng.next(),
@@ -90,7 +90,7 @@ fn refused_state_with_other_numbers(rng: &mut Rng, script: &mut Script, number: 
             account: [rng.next(), rng.next()],
         },
     };
-    state.unused.notes = rng.next();
+    state.more.notes = rng.next();
     script.set(&moment);
     again(rng, script);
 }

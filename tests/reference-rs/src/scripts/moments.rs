@@ -3,10 +3,11 @@
 use crate::calendar::Quarter;
 use crate::draft::*;
 use crate::edits::Refusal;
+use crate::format::Format;
 use crate::lines::first_line;
 use crate::meaning::{Entry, Room};
 use crate::tables::Tables;
-use crate::walk::{self, Format, Standing, State};
+use crate::walk::{self, Standing, State};
 
 /// A walk between two calls.
 #[derive(Clone, Debug)]

@@ -4,8 +4,9 @@ use crate::calendar::Quarter;
 use crate::command::{NUMBERS, PHASES};
 use crate::draft::MOST_WAGES;
 use crate::edits::Refusal;
+use crate::format::Format;
 use crate::rng::Rng;
-use crate::walk::{Format, OpenE, Standing, State};
+use crate::walk::{OpenE, Standing, State};
 use crate::write::{TOO_MUCH_FOR_F, TOO_MUCH_FOR_T};
 
 /// The most that the columns of a command hold.
@@ -28,7 +29,7 @@ pub fn alter(rng: &mut Rng, state: &mut State) {
 /// The format, and what PFML does not use.
 fn alter_unused(rng: &mut Rng, state: &mut State) {
     let any = rng.next() >> rng.below(64);
-    let (of_e, of_file) = (&mut state.open.unused, &mut state.unused);
+    let (of_e, of_file) = (&mut state.open.more, &mut state.more);
     match rng.below(10) {
         0 => state.format = Format::Unknown,
         1 => of_e.second = any,

@@ -6,8 +6,9 @@ use super::moments::{in_each_phase, HELD, LENT};
 use super::Scene;
 use crate::calendar::Quarter;
 use crate::draft::MOST_WAGES;
+use crate::format::Format;
 use crate::layout::LENGTH;
-use crate::walk::{Format, OpenE, State, Unused, UnusedOfE};
+use crate::walk::{MoreOfE, MoreOfFile, OpenE, State};
 
 type Alter = Box<dyn Fn(&mut State)>;
 
@@ -189,7 +190,7 @@ fn untested(list: &mut Vec<Alter>) {
         s: 9_999_999_999,
         cents: 9_999_999_999_999_999_999,
         ids_in_use: 9_999_999_999,
-        unused: UnusedOfE::default(),
+        more: MoreOfE::default(),
     };
     push(list, move |state| state.open = wild);
     push(list, |state| state.quarter_of_a = Quarter::new(99_999, 99));
@@ -203,14 +204,14 @@ fn untested(list: &mut Vec<Alter>) {
         (state.open.s, state.open.cents) = (5, 5 * MOST_WAGES);
     });
     push(list, |state| {
-        state.open.unused = UnusedOfE {
+        state.open.more = MoreOfE {
             second: u64::MAX,
             others: u64::MAX,
             nearest: u64::MAX,
             noted: true,
             account: [u64::MAX; 2],
         };
-        state.unused = Unused {
+        state.more = MoreOfFile {
             second: u64::MAX,
             others: u64::MAX,
             notes: u64::MAX,

@@ -6,9 +6,10 @@ use super::Q1;
 use crate::calendar::Quarter;
 use crate::draft::*;
 use crate::edits::{Phase, Refusal};
+use crate::format::Format;
 use crate::meaning::Entry;
 use crate::rng::Rng;
-use crate::walk::{self, Format, OpenE, Standing, State, UnusedOfE};
+use crate::walk::{self, MoreOfE, OpenE, Standing, State};
 
 /// A number that may be in a state: near a bound, small, or anything.
 fn any_number(rng: &mut Rng) -> u64 {
@@ -81,9 +82,9 @@ pub fn any_state(rng: &mut Rng) -> State {
             8 => state.open.cents = number,
             9 => state.open.ids_in_use = number,
             10 if rng.one_in(4) => state.format = Format::Unknown,
-            11 => state.open.unused.second = number,
-            12 => state.open.unused.noted = true,
-            13 => state.unused.notes = number,
+            11 => state.open.more.second = number,
+            12 => state.open.more.noted = true,
+            13 => state.more.notes = number,
             _ => (state.open.s, state.open.cents) = (0, 0),
         }
     }
@@ -159,12 +160,12 @@ fn assert_changes(letter: u8, before: &Side, after: &Side) {
     assert_eq!(new.held, old.held);
     assert_eq!(new.employers, old.employers + u64::from(letter == b'E'));
     assert_eq!(new.s, old.s + u64::from(letter == b'S'));
-    assert_eq!((new.format, new.unused), (old.format, old.unused));
+    assert_eq!((new.format, new.more), (old.format, old.more));
     let wanted = match letter {
-        b'S' => old.open.unused,
-        _ => UnusedOfE::default(),
+        b'S' => old.open.more,
+        _ => MoreOfE::default(),
     };
-    assert_eq!(new.open.unused, wanted);
+    assert_eq!(new.open.more, wanted);
     if b"ATF".contains(&letter) {
         assert_eq!(new.open, OpenE::default());
     }

@@ -5,12 +5,13 @@ use super::Q1;
 use crate::build::{first_column, read_number, text_length, Built, Form, NO_ACCOUNT};
 use crate::calendar::Quarter;
 use crate::edits::Refusal;
+use crate::format::Format;
 use crate::layout::LENGTH;
 use crate::meaning::Room;
 use crate::rng::Rng;
 use crate::tables::Tables;
 use crate::values::*;
-use crate::walk::{self, Format};
+use crate::walk;
 use crate::write::Written;
 
 const FEIN: u64 = 12_345_678;

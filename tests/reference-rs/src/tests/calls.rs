@@ -5,8 +5,9 @@ use crate::calendar::Quarter;
 use crate::command::PHASES;
 use crate::draft::*;
 use crate::edits::{Phase, Refusal};
+use crate::format::Format;
 use crate::meaning::Entry;
-use crate::walk::{self, Format, OpenE, Standing, State, Unused, UnusedOfE};
+use crate::walk::{self, MoreOfE, MoreOfFile, OpenE, Standing, State};
 
 const IDS: usize = 4;
 const LIST: usize = 3;
@@ -28,9 +29,9 @@ pub fn e_open() -> (State, Vec<u32>, Vec<Entry>) {
             s: 2,
             cents: 900,
             ids_in_use: 2,
-            unused: UnusedOfE::default(),
+            more: MoreOfE::default(),
         },
-        unused: Unused::default(),
+        more: MoreOfFile::default(),
     };
     (state, vec![21, 22, 23, 24], OF_E_OPEN.to_vec())
 }
@@ -107,7 +108,7 @@ fn numbers_of_no_open_e() {
         s: u64::MAX,
         cents: u64::MAX,
         ids_in_use: u64::MAX,
-        unused: UNUSED_OF_E,
+        more: MORE_OF_E,
     };
     for phase in [Phase::BeforeA, Phase::AfterA, Phase::AfterT, Phase::AfterF] {
         assert_fit(|s| {
@@ -144,8 +145,7 @@ fn numbers_of_refused_walks() {
         let left = (1..=8).contains(&number)
             || (10..=20).contains(&number)
             || (30..=65).contains(&number)
-            || number == 70
-            || number == 73;
+            || number == 70;
         let (mut state, _, _) = e_open();
         state.standing = Standing::Refused(Refusal::new(number, 3, 4));
         state.held = Quarter::new(0, 0);
@@ -168,6 +168,9 @@ fn refused_walks() {
         let (mut state, mut ids, mut list) = e_open();
         let refusal = Refusal::new(number, 3, 4);
         state.standing = Standing::Refused(refusal);
+        if number == 73 {
+            state.format = Format::Unknown;
+        }
         let before = (state, ids.clone(), list.clone());
         let answer = walk::line(&mut state, &mut ids, &mut list, b"A");
         assert_eq!((answer.taken, answer.refusal), (0, Some(refusal)));
@@ -237,16 +240,6 @@ fn openings() {
     }
 }
 
-/// By hand, from the header for C: 0 is PFML, another number none; a state has 255 for these.
-#[test]
-fn formats_by_their_numbers() {
-    assert_eq!(Format::named(0), Format::Pfml);
-    for number in [1, 9, 255, 256, 1 << 32, u64::MAX] {
-        assert_eq!(Format::named(number), Format::Unknown);
-    }
-    assert_eq!((Format::Pfml.word(), Format::Unknown.word()), (0, 255));
-}
-
 /// A format that is none: 72, in every walk that an opening did not refuse.
 #[test]
 fn walks_of_no_format() {
@@ -262,14 +255,14 @@ fn walks_of_no_format() {
     }
 }
 
-const UNUSED_OF_E: UnusedOfE = UnusedOfE {
+const MORE_OF_E: MoreOfE = MoreOfE {
     second: u64::MAX,
     others: 19,
     nearest: u64::MAX,
     noted: true,
     account: [22, u64::MAX],
 };
-const UNUSED: Unused = Unused {
+const MORE_OF_FILE: MoreOfFile = MoreOfFile {
     second: u64::MAX,
     others: 25,
     notes: u64::MAX,
@@ -279,34 +272,34 @@ const UNUSED: Unused = Unused {
 /// to zero, the end leaves it and a refusal sets it to zero.
 #[test]
 fn numbers_that_pfml_does_not_use() {
-    let none = UnusedOfE::default();
+    let none = MoreOfE::default();
     for (phase, line, left) in [
         (Phase::BeforeA, record_a(Q1, 1, &AUGUSTA), none),
         (Phase::AfterA, record_e(Q1, 8, true, &AUGUSTA), none),
-        (Phase::EOpen, record_s(Q1, 77, 0, 50), UNUSED_OF_E),
+        (Phase::EOpen, record_s(Q1, 77, 0, 50), MORE_OF_E),
         (Phase::EOpen, record_t(77, 2, 900), none),
         (Phase::AfterT, record_f(3, 2, 1_000), none),
     ] {
         let (mut state, mut ids, mut list) = e_open();
         state.standing = Standing::Among(phase);
-        state.open.unused = UNUSED_OF_E;
-        state.unused = UNUSED;
+        state.open.more = MORE_OF_E;
+        state.more = MORE_OF_FILE;
         let before = state;
         let answer = walk::line(&mut state, &mut ids, &mut list, &with_end(line));
         assert_eq!(answer.refusal, None);
-        assert_eq!((state.open.unused, state.unused), (left, UNUSED));
+        assert_eq!((state.open.more, state.more), (left, MORE_OF_FILE));
 
         state = before;
         let refusal = walk::line(&mut state, &mut ids, &mut list, b"").refusal;
         assert_eq!(refusal, Some(Refusal::new(1, 6, 1)));
-        assert_eq!((state.open.unused, state.unused), (none, Unused::default()));
+        assert_eq!((state.open.more, state.more), (none, MoreOfFile::default()));
     }
     let (mut state, mut ids, mut list) = e_open();
     state.standing = Standing::Among(Phase::AfterF);
-    state.open.unused = UNUSED_OF_E;
-    state.unused = UNUSED;
+    state.open.more = MORE_OF_E;
+    state.more = MORE_OF_FILE;
     assert_eq!(walk::end(&mut state, &mut ids, &mut list), None);
-    assert_eq!((state.open.unused, state.unused), (UNUSED_OF_E, UNUSED));
+    assert_eq!((state.open.more, state.more), (MORE_OF_E, MORE_OF_FILE));
 }
 
 fn with_end(text: Vec<u8>) -> Vec<u8> {

@@ -7,11 +7,12 @@ use crate::alike::is_identity;
 use crate::big;
 use crate::draft::*;
 use crate::edits::Refusal;
+use crate::format::Format;
 use crate::gen::{Cases, Options};
 use crate::meaning::{acknowledge, Entry, Outcome, Room};
 use crate::rng::Rng;
 use crate::tally::Tally;
-use crate::walk::{self, Format};
+use crate::walk;
 use std::collections::HashSet;
 
 /// The maker of each case knows what it gets, and the readings here agree.
@@ -24,7 +25,7 @@ fn generated_cases() {
     let cases = Cases::new(3, 22_000, options);
     let promised = cases.promised();
     assert_eq!(promised.len(), 54);
-    let mut tally = Tally::default();
+    let mut tally = Tally::of(Format::Pfml);
     for (k, case) in cases.enumerate() {
         tally.count(&case, &outcome(&case.input));
         let agreed = agree::check(&case.input, &mut Rng::of(3, 60, k as u64));
@@ -69,7 +70,7 @@ fn long_files() {
     for k in (0..40).filter(|k| *k < 10 || k % 2 == 1) {
         cases.push(big::long(&mut Rng::of(4, 51, k), k));
     }
-    let mut tally = Tally::default();
+    let mut tally = Tally::of(Format::Pfml);
     for case in cases {
         tally.count(&case, &outcome(&case.input));
     }

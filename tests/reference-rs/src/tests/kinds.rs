@@ -6,9 +6,10 @@ use crate::ack::{answer, outcome, ROOM};
 use crate::calendar::{Date, Quarter};
 use crate::draft::*;
 use crate::edits::Refusal;
+use crate::format::Format;
 use crate::meaning::{Accepted, Entry, Outcome, Room};
 use crate::tables::Tables;
-use crate::walk::{self, Format};
+use crate::walk;
 
 const HELD: Quarter = Quarter::new(2026, 6);
 

@@ -6,11 +6,12 @@ use super::Q1;
 use crate::calendar::Quarter;
 use crate::draft::*;
 use crate::edits::{Phase, Refusal};
+use crate::format::Format;
 use crate::layout::LENGTH;
 use crate::meaning::Room;
 use crate::rng::Rng;
 use crate::tables::Tables;
-use crate::walk::{self, Answer, Format, LineAnswer, OpenE, Standing, State};
+use crate::walk::{self, Answer, LineAnswer, OpenE, Standing, State};
 use crate::write::{write_f, write_t, Written};
 
 /// A slice with something in each byte.
@@ -190,7 +191,6 @@ fn out_of_place() {
         Standing::Accepted,
         refused(44),
         refused(70),
-        refused(73),
     ] {
         for record in Written::BOTH {
             assert_refused(record, LENGTH, 80, |state| {

@@ -64,25 +64,50 @@ returns-14 : tie.Need-returns-14
 unfolding ruleOf ruleList
 returns-14 c = rw (c .match .keys14)
 
+returns-15 : tie.Need-returns-15
+unfolding ruleOf ruleList
+returns-15 c = rw (c .match .keys15)
+
+returns-16 : tie.Need-returns-16
+unfolding ruleOf ruleList
+returns-16 c = rw (c .match .keys16)
+
+returns-17 : tie.Need-returns-17
+unfolding ruleOf ruleList
+returns-17 c = rw (c .match .keys17)
+
+returns-18 : tie.Need-returns-18
+unfolding ruleOf ruleList
+returns-18 c = rw (c .match .keys18)
+
+returns-19 : tie.Need-returns-19
+unfolding ruleOf ruleList
+returns-19 c = rw (c .match .keys19)
+
+returns-20 : tie.Need-returns-20
+unfolding ruleOf ruleList
+returns-20 c = rw (c .match .keys20)
+
 -- A number that is none of those up to k is above k.
 up : (n k : ℕ) → (n ≡ k → ⊥) → k ≤ n → k + 1 ≤ n
 up n k other h = omega arith
 
 -- 0 is the first of the list, and past its end there is no rule.
-rest : (n : ℕ) → (1 ≤ n → 15 ≤ n) → Nothing ≡ ruleOf n
+rest : (n : ℕ) → (1 ≤ n → 21 ≤ n) → Nothing ≡ ruleOf n
 unfolding ruleOf ruleList
 rest zero past = refl
 rest (suc n) past = sym (List·getD-eq-default ruleList Nothing (past (omega arith)))
 
-returns-15 : tie.Need-returns-15
-returns-15 c =
+returns-21 : tie.Need-returns-21
+returns-21 c =
     let r = c .match .rest in
     let n = c .before .args .number in
-    rest n (λ h. up n 14 (r .1) (up n 13 (r .0 .1) (up n 12 (r .0 .0 .1) (up n 11 (r .0 .0 .0 .1) (up n 10 (r .0 .0 .0 .0 .1) (up n 9 (r .0 .0 .0 .0 .0 .1) (up n 8 (r .0 .0 .0 .0 .0 .0 .1) (up n 7 (r .0 .0 .0 .0 .0 .0 .0 .1) (up n 6 (r .0 .0 .0 .0 .0 .0 .0 .0 .1) (up n 5 (r .0 .0 .0 .0 .0 .0 .0 .0 .0 .1) (up n 4 (r .0 .0 .0 .0 .0 .0 .0 .0 .0 .0 .1) (up n 3 (r .0 .0 .0 .0 .0 .0 .0 .0 .0 .0 .0 .1) (up n 2 (r .0 .0 .0 .0 .0 .0 .0 .0 .0 .0 .0 .0 .1) (up n 1 (r .0 .0 .0 .0 .0 .0 .0 .0 .0 .0 .0 .0 .0 .1) h))))))))))))))
+    rest n (λ h. up n 20 (r .1) (up n 19 (r .0 .1) (up n 18 (r .0 .0 .1) (up n 17 (r .0 .0 .0 .1) (up n 16 (r .0 .0 .0 .0 .1) (up n 15 (r .0 .0 .0 .0 .0 .1) (up n 14 (r .0 .0 .0 .0 .0 .0 .1) (up n 13 (r .0 .0 .0 .0 .0 .0 .0 .1) (up n 12 (r .0 .0 .0 .0 .0 .0 .0 .0 .1) (up n 11 (r .0 .0 .0 .0 .0 .0 .0 .0 .0 .1) (up n 10 (r .0 .0 .0 .0 .0 .0 .0 .0 .0 .0 .1) (up n 9 (r .0 .0 .0 .0 .0 .0 .0 .0 .0 .0 .0 .1) (up n 8 (r .0 .0 .0 .0 .0 .0 .0 .0 .0 .0 .0 .0 .1) (up n 7 (r .0 .0 .0 .0 .0 .0 .0 .0 .0 .0 .0 .0 .0 .1) (up n 6 (r .0 .0 .0 .0 .0 .0 .0 .0 .0 .0 .0 .0 .0 .0 .1) (up n 5 (r .0 .0 .0 .0 .0 .0 .0 .0 .0 .0 .0 .0 .0 .0 .0 .1) (up n 4 (r .0 .0 .0 .0 .0 .0 .0 .0 .0 .0 .0 .0 .0 .0 .0 .0 .1) (up n 3 (r .0 .0 .0 .0 .0 .0 .0 .0 .0 .0 .0 .0 .0 .0 .0 .0 .0 .1) (up n 2 (r .0 .0 .0 .0 .0 .0 .0 .0 .0 .0 .0 .0 .0 .0 .0 .0 .0 .0 .1) (up n 1 (r .0 .0 .0 .0 .0 .0 .0 .0 .0 .0 .0 .0 .0 .0 .0 .0 .0 .0 .0 .1) h))))))))))))))))))))
 
 pub rule-of-spec : {M : Type 1} → statement M
 rule-of-spec =
     tie.close
     (tie.spec
     returns returns-2 returns-3 returns-4 returns-5 returns-6 returns-7 returns-8 returns-9 returns-10
-    returns-11 returns-12 returns-13 returns-14 returns-15)
+    returns-11 returns-12 returns-13 returns-14 returns-15 returns-16 returns-17 returns-18 returns-19 returns-20
+    returns-21)

@@ -3,5 +3,14 @@ use borrow.Author.Tests.{eq-eqb, ne-eqb}
 use Rattle.edits.proofs.format.format_of.Statement.{statement}
 use Rattle.edits.proofs.format.format_of.Tie as tie
 
+returns : tie.Need-returns
+returns c = rw (c .match .keys1)
+
+returns-2 : tie.Need-returns-2
+returns-2 c = rw (c .match .keys2)
+
+returns-3 : tie.Need-returns-3
+returns-3 c = rw (ne-eqb _ _ (c .match .rest .0 .1), ne-eqb _ _ (c .match .rest .1))
+
 pub format-of-spec : {M : Type 1} → statement M
-format-of-spec = tie.close (tie.spec (λ c. rw (eq-eqb _ _ (c .match .keys1))) (λ c. rw (ne-eqb _ _ (c .match .rest .1))))
+format-of-spec = tie.close (tie.spec returns returns-2 returns-3)

@@ -21,7 +21,7 @@ rule-edit-spec =
     (λ c. search needs) (λ c κs. search needs) (λ c. search needs) (λ c κs. search needs) (λ c. search needs) (λ c κs. search needs)
     (λ c κs. search needs) (λ c. search needs) (λ c κs. search needs) (λ c. search needs) (λ c κs. search needs) (λ c. search needs)
     (λ c κs. search needs) (λ c. search needs) (λ c κs. search needs) (λ c. search needs) (λ c κs. search needs) (λ c. search needs)
-    (λ c κs. search needs) (λ c. search needs) (λ c κs. search needs) (λ c κs. search needs)
+    (λ c κs. search needs) (λ c. search needs) (λ c κs. search needs) (λ c κs. search needs) (λ c. search needs) (λ c κs. search needs)
     returns
     (λ c. let told = c .before .before .before in
     let held = told .before .before .before .before .before .quarter-held in
@@ -51,4 +51,5 @@ rule-edit-spec =
       told .enum-told15 .given .1,
       ← ap (λ (q : Quarter). timingOf q (first .before .before .args .around .filed)) (first .quarter-held .ensures),
       ← c .before .timing-of2 .ensures,
-    ) (c .final-if-current .ensures)))
+    ) (c .final-if-current .ensures))
+    (λ c. rw (c .before .before .rule .given .1) (c .rule-edit .ensures)))

@@ -1,0 +1,12 @@
+pub mod Records
+pub mod Writing
+pub mod Others
+pub mod Due
+pub mod TotalFields
+pub mod Fitting
+pub mod Ended
+pub mod Zeros
+pub mod Shared
+pub mod Theorems
+pub mod Once
+pub mod Examples
