@@ -107,16 +107,16 @@ pub fn is_of_opening(number: u8) -> bool
 }
 
 // Whether a number is one that a refusal leaves in the state of a walk of this format.
-fn is_left(format: Format, number: u8) -> bool
-    ensures { λ r. ⌜ r ≡ isLeft format number ⌝ }
+fn is_left(format: Format, refusal: u8) -> bool
+    ensures { λ r. ⌜ r ≡ isLeft format refusal ⌝ }
 {
-    if number == 70 {
+    if refusal == 70 {
         return true;
     }
     if format::is_known(format) {
-        return record::is_left(format, number);
+        return record::is_left(format, refusal);
     }
-    number == 73
+    refusal == 73
 }
 
 fn phase_unfit(phase: Phase, held: Opening, filed: Quarter) -> bool
