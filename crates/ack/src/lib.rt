@@ -1,5 +1,7 @@
 // The acknowledgement of a wage file that is read piece by piece: its header, and one turn on the
 // bytes held.
+#![tactic(auto)]
+
 ghost use Rattle.std.specs.Prelude.{◌+◌, ◌≤◌, min, ◌||◌, ◌≡◌, leb, length, drop};
 ghost use Rattle.tables.specs.Room.{tables as tables_of};
 ghost use Rattle.state.specs.Walks.{walk_of};
@@ -20,7 +22,7 @@ use step::Reply;
 use tables::Employer;
 
 // Where a program stands between two reads: before the header; within the file; or finished.
-#[derive(Drop)]
+#[derive(Clone, Copy)]
 pub enum Progress {
     Waiting,
     Walking(State),
@@ -29,7 +31,7 @@ pub enum Progress {
 
 // What a turn leaves: where the program stands, and how many of the bytes held it took. What it did
 // not take is to stand before the next read.
-#[derive(Drop)]
+#[derive(Clone, Copy)]
 pub struct Turned {
     pub taken: usize,
     pub progress: Progress,
@@ -93,7 +95,7 @@ fn has_header(ended: bool, held: usize) -> bool
 
 // A place in the bytes held. `last`: after the lines from there on comes the end call, since no
 // more bytes will come, or a line was refused.
-#[derive(Drop)]
+#[derive(Clone, Copy)]
 struct Place {
     at: usize,
     last: bool,
@@ -176,7 +178,7 @@ fn lines_turn(
 
 // How a turn starts: with the header, with the lines that a state awaits, or not at all, and then
 // with how many bytes taken.
-#[derive(Drop)]
+#[derive(Clone, Copy)]
 struct Start {
     opens: bool,
     walks: bool,

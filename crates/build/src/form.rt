@@ -4,7 +4,7 @@ ghost use Rattle.build.specs.Values.{form_of};
 
 use field::class::Class;
 
-#[derive(Drop)]
+#[derive(Clone, Copy)]
 pub enum Form {
     // A number.
     Amount,

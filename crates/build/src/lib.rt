@@ -5,6 +5,8 @@
 // other; the entries of the letter, the entity code and blank space are not looked at. An entry
 // past the end is 0, and a text ends where `texts` ends; what is left over of either is not looked
 // at.
+#![tactic(auto)]
+
 pub mod form;
 pub mod read;
 mod rows;

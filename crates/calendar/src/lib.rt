@@ -1,4 +1,6 @@
 // Quarters and calendar dates as numbers. No line is read here.
+#![tactic(auto)]
+
 ghost use Rattle.std.specs.Prelude.{◌≡◌};
 ghost use Rattle.calendar.specs.Quarters.{is_quarter_month, is_filing_year, is_allowed, is_after, is_same, current_quarter, timing_of, is_reportable};
 ghost use Rattle.calendar.specs.Dates.{is_leap, month_days, days_in, month_of, day_of, year_of, is_date, is_last_day, in_quarter};
@@ -8,7 +10,7 @@ const FIRST_YEAR: u64 = 2025;
 const LAST_YEAR: u64 = 9999;
 
 // A quarter: its year and its last month.
-#[derive(Drop)]
+#[derive(Clone, Copy)]
 pub struct Quarter {
     pub year: u64,
     pub month: u64,
@@ -16,7 +18,7 @@ pub struct Quarter {
 
 // How a quarter stands to the last closed one: it is closed, it is the current one, or it is later
 // than that.
-#[derive(Drop)]
+#[derive(Clone, Copy)]
 pub enum Timing {
     Closed,
     Current,

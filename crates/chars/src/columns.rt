@@ -8,7 +8,7 @@ ghost use Rattle.chars.specs.Sweep.{all_pass, is_between, reads_as_of_name};
 use reason::{Edit, Reason};
 
 // What a column may hold.
-#[derive(Drop)]
+#[derive(Clone, Copy)]
 pub enum Allowed {
     Anything,
     Permitted,

@@ -1,4 +1,6 @@
 // Characters and columns of a line, and how they are read.
+#![tactic(auto)]
+
 pub mod columns;
 
 ghost use Rattle.std.specs.Prelude.{◌≡◌, ◌-◌, get_or};

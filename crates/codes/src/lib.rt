@@ -1,9 +1,11 @@
 // The two-letter codes of Appendix A: whether a code is a state's, a province's or unknown.
+#![tactic(auto)]
+
 ghost use Rattle.std.specs.Prelude.{◌≡◌, ◌++◌};
 ghost use Rattle.codes.specs.Codes.{states, provinces, is_code, region_of};
 
 // What a code stands for.
-#[derive(Drop)]
+#[derive(Clone, Copy)]
 pub enum Region {
     State,
     Province,

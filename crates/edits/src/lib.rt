@@ -1,4 +1,6 @@
 // The edits of the fields of one record, given what they depend on besides the record's own bytes.
+#![tactic(auto)]
+
 pub mod fields;
 pub mod format;
 pub mod further;
@@ -11,7 +13,7 @@ use calendar::Quarter;
 use format::Format;
 
 // Where a line stands: before A; after A, before any E; under an E; after a T; after F.
-#[derive(Drop)]
+#[derive(Clone, Copy)]
 pub enum Phase {
     BeforeA,
     AfterA,
@@ -21,7 +23,7 @@ pub enum Phase {
 }
 
 // What a walk is opened with: the format of the file, and the last closed quarter.
-#[derive(Drop)]
+#[derive(Clone, Copy)]
 pub struct Opening {
     pub format: Format,
     pub year: u64,
@@ -32,7 +34,7 @@ pub struct Opening {
 // sum of their wages in cents. The other numbers are those of formats to come, and zero in PFML: a
 // second sum; the records under it that are no S, and the nearest of these; whether a note was
 // among them; and the account number as two numbers to the base 256.
-#[derive(Drop)]
+#[derive(Clone, Copy)]
 pub struct Open {
     pub fein: u64,
     pub follow: bool,
@@ -49,7 +51,7 @@ pub struct Open {
 // The whole file so far: its S records, its E records, and the sum of all wages in cents. The other
 // numbers are those of formats to come, and zero in PFML: the second sum, the records that are no
 // S, and the notes.
-#[derive(Drop)]
+#[derive(Clone, Copy)]
 pub struct Totals {
     pub count: u64,
     pub employers: u64,
@@ -60,7 +62,7 @@ pub struct Totals {
 }
 
 // All that a line's edits depend on besides its own bytes, but for what was seen.
-#[derive(Drop)]
+#[derive(Clone, Copy)]
 pub struct Context {
     pub phase: Phase,
     // What the walk was opened with, and A's quarter.
@@ -75,14 +77,14 @@ pub struct Context {
 
 // Whether the FEIN on the line stands on an earlier E, and whether the identity number on it stands
 // under the open E.
-#[derive(Drop)]
+#[derive(Clone, Copy)]
 pub struct Seen {
     pub fein: bool,
     pub id: bool,
 }
 
 // The columns of a record that the rules of its other fields look at; 0 where it has no such field.
-#[derive(Drop)]
+#[derive(Clone, Copy)]
 pub struct Landmarks {
     pub year_first: u16,
     pub year_last: u16,
@@ -95,7 +97,7 @@ pub struct Landmarks {
 
 // The same for rules that PFML has not: the number that asks for a licence; of a difference the
 // whole and the part; and where an account number's second part begins.
-#[derive(Drop)]
+#[derive(Clone, Copy)]
 pub struct FurtherLandmarks {
     pub licensed_first: u16,
     pub licensed_last: u16,
@@ -122,7 +124,7 @@ pub const NONE_FURTHER: FurtherLandmarks = FurtherLandmarks {
 };
 
 // The rule by which a field is held against its context.
-#[derive(Drop)]
+#[derive(Clone, Copy)]
 pub enum Rule {
     Nothing,
     YearInTime,
@@ -144,7 +146,7 @@ pub enum Rule {
 }
 
 // The rules that PFML has not.
-#[derive(Drop)]
+#[derive(Clone, Copy)]
 pub enum FurtherRule {
     // A's year is not after that of the last closed quarter.
     YearHeld,

@@ -1,4 +1,6 @@
 // The fast path, for a run: PFML's S records under one employer, each found good by one sweep.
+#![tactic(auto)]
+
 mod marks;
 
 ghost use Rattle.std.specs.Prelude.{◌+◌, ◌≤◌, ◌<◌, ◌^◌, not, ◌&&◌, ◌||◌, ◌⊎◌, ◌≡◌, eqb, ltb, length, take, drop};
@@ -19,7 +21,7 @@ use state::{Stage, State, fitness};
 use step::{Answer, Reply};
 
 // Where a run stopped: at a place of the bytes, in a state.
-#[derive(Drop)]
+#[derive(Clone, Copy)]
 pub struct Run {
     pub state: State,
     pub at: usize,

@@ -10,7 +10,7 @@ use chars::columns::Allowed;
 use reason::Edit;
 
 // What a field is.
-#[derive(Drop)]
+#[derive(Clone, Copy)]
 pub enum Class {
     // Unused columns, where a format ignores them.
     Ignored,
@@ -55,7 +55,7 @@ pub enum Class {
 }
 
 // What a field is that PFML has not.
-#[derive(Drop)]
+#[derive(Clone, Copy)]
 pub enum Further {
     // A social security number, which never begins with 9.
     SocialSecurity,

@@ -1,4 +1,6 @@
 // The frames of an acknowledgement, written into a lent buffer.
+#![tactic(auto)]
+
 ghost use Rattle.std.specs.Prelude.{◌+◌, ◌*◌, ◌≤◌, ◌<◌, ◌++◌, ◌≡◌, length, take};
 ghost use Rattle.reason.specs.ReasonNumbers.{notice_of};
 ghost use Rattle.edits.specs.declared.format.Format.TheVariants.{Pfml};
@@ -17,7 +19,7 @@ use tables::{Employer, list};
 
 // The bytes written; or why none is: the state is unfit (72, which a list shorter than the
 // employers makes it too), the walk has not ended, the buffer is too small.
-#[derive(Drop)]
+#[derive(Clone, Copy)]
 pub enum Framed {
     Written(usize),
     Unfit,

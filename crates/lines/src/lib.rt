@@ -1,4 +1,6 @@
 // Cutting the first line off lent bytes, for records of any length.
+#![tactic(auto)]
+
 ghost use Rattle.std.specs.Prelude.{◌≡◌, ◌≤◌, min, ltb, length, drop};
 ghost use Rattle.lines.specs.Lines.{is_end, text_of, end_of, first_line};
 ghost use Rattle.lines.specs.Looking.{mark_of};
@@ -7,7 +9,7 @@ ghost use Rattle.lines.specs.Cutting.{beyond, cutting, cut_of};
 use reason::Reason;
 
 // The bytes that a line and its end take, or the column and the reason of its refusal.
-#[derive(Drop)]
+#[derive(Clone, Copy)]
 pub enum Cut {
     Taken(usize),
     Refused(u16, Reason),

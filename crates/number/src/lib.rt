@@ -1,4 +1,6 @@
 // A number read from a field, and written into one.
+#![tactic(auto)]
+
 pub mod letters;
 
 ghost use Rattle.std.specs.Prelude.{◌≡◌, min, length, set};
@@ -8,7 +10,7 @@ ghost use Rattle.number.specs.Numbers.{number_in, value_in, put_number, reading_
 use reason::Reason;
 
 // What a field reads as: a number, or the column and the reason of its refusal.
-#[derive(Drop)]
+#[derive(Clone, Copy)]
 pub enum Number {
     Value(u64),
     Refused(u16, Reason),

@@ -7,7 +7,7 @@ use pfml_fields::{
     FINAL_OF_E, PERIOD_OF_A, PERIOD_OF_E, STATE_OF_A, STATE_OF_E, YEAR_OF_A, YEAR_OF_E,
 };
 
-#[derive(Drop)]
+#[derive(Clone, Copy)]
 pub enum Kind {
     // A
     Transmitter,

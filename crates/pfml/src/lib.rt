@@ -1,5 +1,7 @@
 // PFML, the paid leave wage file of 290 characters: the edits of one line in the stated order, and
 // what the record on it says and asks.
+#![tactic(auto)]
+
 pub mod fitness;
 pub mod kind;
 pub mod place;

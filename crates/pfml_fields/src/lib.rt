@@ -1,5 +1,7 @@
 // The fields of the five records, class beside first and last column, and the map that gives the
 // field of every column. A record is named by its place in the order A, E, S, T, F, counted from 0.
+#![tactic(auto)]
+
 pub mod field_rules;
 mod map;
 
@@ -179,7 +181,7 @@ pub const ALL_FIELDS: usize = 72;
 const STARTS: [usize; 5] = [FIRST_OF_A, FIRST_OF_E, FIRST_OF_S, FIRST_OF_T, FIRST_OF_F];
 
 // Where a column lies.
-#[derive(Drop)]
+#[derive(Clone, Copy)]
 pub enum FieldAt {
     // In the field of this number.
     Field(usize),

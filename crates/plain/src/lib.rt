@@ -1,5 +1,7 @@
 // The fast path, for one line: an S record of PFML that one sweep over its columns finds good,
 // without an exit on the way. What it does not find good is only looked at more closely.
+#![tactic(auto)]
+
 ghost use Rattle.std.specs.Prelude.{◌≡◌, ◌-◌, ◌≤◌, length, drop};
 ghost use Rattle.plain.specs.Plain.{of_digit, of_employer, lowest, highest, fits, within, digits_from, sight};
 
@@ -14,7 +16,7 @@ use pfml_fields::{
 
 // What is seen of a plain S record: the bytes that it and its end take, its identity number and its
 // wages. No bytes: look closer.
-#[derive(Drop)]
+#[derive(Clone, Copy)]
 pub struct Sighted {
     pub taken: usize,
     pub id: u64,

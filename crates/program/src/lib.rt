@@ -1,6 +1,8 @@
 // What every acknowledging program does: it reads from standard input, makes the turns of the
 // library, and writes the frames to standard output. No rule of the paper stands here. Its memory
 // is fixed, whatever the input's size.
+#![tactic(auto)]
+
 ghost use Rattle.std.specs.Prelude.{◌+◌, ◌-◌, ◌≤◌, length};
 
 use ack::{Progress, Turned};
@@ -19,7 +21,7 @@ use tables::{Employer, list};
 // digits, how many bytes a read brings at most; a blank; a digit, the number of its format; LF. Its
 // acknowledgement is told, and a line with a full stop. The tables keep for the next case what one
 // left in them. A case that is cut short ends the program.
-#[derive(Drop)]
+#[derive(Clone, Copy)]
 pub enum Telling {
     One,
     Cases,
@@ -27,7 +29,7 @@ pub enum Telling {
 
 // What one read left in the buffer: how many bytes are held there, how many of the case are still
 // to come, whether the input has ended, and whether it could not be read or is cut short.
-#[derive(Drop)]
+#[derive(Clone, Copy)]
 struct Held {
     bytes: usize,
     left: u64,
@@ -39,7 +41,7 @@ struct Held {
 // are left, how many bytes of the case are still to come, how many a read brings at most, the
 // input's format, and how it stands. No contract can say that an input ends, so the turns are counted down; none is
 // left when the program is done.
-#[derive(Drop)]
+#[derive(Clone, Copy)]
 struct Between {
     have: usize,
     turns: u64,

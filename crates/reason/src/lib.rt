@@ -1,11 +1,13 @@
 // Why a file is refused, and where.
+#![tactic(auto)]
+
 ghost use Rattle.std.specs.Prelude.{◌≡◌};
 ghost use Rattle.reason.specs.ReasonNumbers.{number_of, reason_of, is_listed};
 
 // One reason for each number of the paper's table, for 64 and 65 of document 02, and for 73, which
 // the formats bring. The number of a reason is `number_of`, and `reason_of` the way back: nothing
 // else goes by cases on the reasons.
-#[derive(Drop)]
+#[derive(Clone, Copy)]
 pub enum Reason {
     // 1: A line's length is not the record's.
     LineLength,
@@ -142,7 +144,7 @@ pub enum Reason {
 }
 
 // A refusal: a place together with the reason. Line and column are counted from 1.
-#[derive(Drop)]
+#[derive(Clone, Copy)]
 pub struct Refusal {
     pub line: u32,
     pub column: u16,
@@ -150,7 +152,7 @@ pub struct Refusal {
 }
 
 // What an edit finds in a line: nothing, or the column and the reason.
-#[derive(Drop)]
+#[derive(Clone, Copy)]
 pub enum Edit {
     Passed,
     Broken(u16, Reason),

@@ -1,5 +1,7 @@
 // The formats: the one place where code asks which format a line is of. Of a number that names none
 // every line is one of no record.
+#![tactic(auto)]
+
 ghost use Rattle.std.specs.Prelude.{◌≡◌, ◌&&◌, leb};
 ghost use Rattle.reason.specs.ReasonNumbers.{finding_of};
 ghost use Rattle.lines.specs.Lines.{first_line};

@@ -1,5 +1,7 @@
 // The rules of fields that read as numbers. A value that fails its rule is refused at the field's
 // first column.
+#![tactic(auto)]
+
 ghost use Rattle.std.specs.Prelude.{◌≡◌};
 ghost use Rattle.chars.specs.Characters.{capitals};
 ghost use Rattle.number.specs.Numbers.{reading_of};

@@ -1,5 +1,7 @@
 // What the machine knows of a line, in every format: what its record says and asks, and the verdict
 // on it.
+#![tactic(auto)]
+
 pub mod head;
 
 ghost use Rattle.std.specs.Prelude.{◌≡◌};
@@ -19,7 +21,7 @@ pub const MOST_EMPLOYEES: u64 = 100000;
 // entry takes over: the flags of an amended and of a final return, and the cease date; the account
 // number as two numbers to the base 256; and whether it tells the quarter that the file reports,
 // and that quarter. What a format has not is 0 or false.
-#[derive(Drop)]
+#[derive(Clone, Copy)]
 pub struct EmployerOn {
     pub fein: u64,
     pub once: bool,
@@ -36,7 +38,7 @@ pub struct EmployerOn {
 
 // An S record: the identity number, the wages in cents, and a second amount in cents, 0 in a format
 // that has none.
-#[derive(Drop)]
+#[derive(Clone, Copy)]
 pub struct EmployeeOn {
     pub id: u64,
     pub wages: u64,
@@ -45,14 +47,14 @@ pub struct EmployeeOn {
 
 // A record under an E that is no S: it changes neither the place nor the tables, and parts no E
 // from the S records under it.
-#[derive(Drop)]
+#[derive(Clone, Copy)]
 pub enum Note {
     // A payment that was made.
     Deposit,
 }
 
 // What a record says to the walk; a line of no record says nothing.
-#[derive(Drop)]
+#[derive(Clone, Copy)]
 pub enum Said {
     OfA(Quarter),
     OfE(EmployerOn),
@@ -64,7 +66,7 @@ pub enum Said {
 }
 
 // What a record asks of a lent table: whether this number stands in it, or nothing.
-#[derive(Drop)]
+#[derive(Clone, Copy)]
 pub struct Asking {
     pub asks: bool,
     pub number: u64,
@@ -72,7 +74,7 @@ pub struct Asking {
 
 // A refusal, with its column; or the bytes that the line and its end take, and what its record
 // says.
-#[derive(Drop)]
+#[derive(Clone, Copy)]
 pub enum Verdict {
     Refused(u16, Reason),
     Passed(usize, Said),

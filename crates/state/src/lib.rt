@@ -1,4 +1,6 @@
 // The state of a walk over a wage file, handed back and forth by value, and when it is unfit.
+#![tactic(auto)]
+
 pub mod fitness;
 
 ghost use Rattle.std.specs.Prelude.{◌≡◌};
@@ -13,14 +15,14 @@ use reason::Refusal;
 
 // Where a walk stands: among the records of the file; at its accepted end; or refused, with the
 // place and the reason.
-#[derive(Drop)]
+#[derive(Clone, Copy)]
 pub enum Stage {
     Reading(Phase),
     Accepted,
     Refused(Refusal),
 }
 
-#[derive(Drop)]
+#[derive(Clone, Copy)]
 pub struct State {
     pub stage: Stage,
     // Lines read; a refused line is not counted.

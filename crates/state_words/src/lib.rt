@@ -1,4 +1,6 @@
 // The state of a walk as words that a caller lends, for callers in a language that has no `State`.
+#![tactic(auto)]
+
 ghost use Rattle.std.specs.Prelude.{◌≤◌, min, ◌≡◌, length};
 ghost use Rattle.std.proofs.Math.Option.{some};
 ghost use Rattle.reason.specs.ReasonNumbers.{notice_of};
@@ -15,7 +17,7 @@ use state::{Stage, State};
 pub const WORDS: usize = 27;
 
 // What the first words tell of where a walk stands.
-#[derive(Drop)]
+#[derive(Clone, Copy)]
 enum Told {
     Known(Stage),
     Unknown,

@@ -1,5 +1,7 @@
 // What opening, one line and the end answer and write, decided over values before any table is
 // touched.
+#![tactic(auto)]
+
 pub mod line;
 mod reading;
 
@@ -15,7 +17,7 @@ use state::{Stage, State, fitness};
 use tables::Employer;
 
 // The bytes taken, 0 at an end call; or a refusal.
-#[derive(Drop)]
+#[derive(Clone, Copy)]
 pub enum Reply {
     Fine(usize),
     Refused(Refusal),
@@ -33,14 +35,14 @@ pub fn taken_in(reply: Reply) -> usize
 
 // What a call hands back: the reply, and the state for the next call. The state stands last, so
 // that no place after it is reckoned from its size.
-#[derive(Drop)]
+#[derive(Clone, Copy)]
 pub struct Answer {
     pub reply: Reply,
     pub state: State,
 }
 
 // What a call writes into the lent tables.
-#[derive(Drop)]
+#[derive(Clone, Copy)]
 pub enum Change {
     Nothing,
     // Both tables zeroed, every entry.
@@ -53,7 +55,7 @@ pub enum Change {
     Closes(usize, usize, u64, u64),
 }
 
-#[derive(Drop)]
+#[derive(Clone, Copy)]
 pub struct Move {
     pub change: Change,
     pub answer: Answer,

@@ -1,5 +1,7 @@
 // The two tables that a caller lends: identity numbers, and the entries of employers. None of the
 // functions asks anything of their length.
+#![tactic(auto)]
+
 pub mod ids;
 pub mod list;
 
@@ -9,7 +11,7 @@ ghost use Rattle.std.specs.Prelude.{◌≡◌, min};
 // the flags of an amended and of a final return, 0 or 1, and the cease date as the number MMDDYYYY,
 // 0 if none. It lies in memory as C lays it out, since callers in other languages lend such a list.
 #[repr(C)]
-#[derive(Drop)]
+#[derive(Clone, Copy)]
 pub struct Employer {
     pub fein: u64,
     pub count: u64,

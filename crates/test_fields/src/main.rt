@@ -3,6 +3,8 @@
 // A case is a line of the input: two digits name the test, three digits and three digits are its
 // numbers a and b, and the rest is its text. Its answer is a line of three numbers: the paper's
 // number (0 where nothing is broken), the column, and the value.
+#![tactic(auto)]
+
 ghost use Rattle.std.specs.Prelude.{◌<◌};
 
 use calendar::{Quarter, Timing};

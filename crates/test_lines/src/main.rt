@@ -4,6 +4,8 @@
 // A case ends with #. Its first 77 characters are the context, digits in fixed columns (`context`
 // below reads them), then a stroke; after it stand the bytes that the call is lent. The answer is a
 // line of two numbers: the paper's number and the column, or 0 and the bytes taken.
+#![tactic(auto)]
+
 ghost use Rattle.std.specs.Prelude.{◌≤◌, length};
 
 use calendar::Quarter;

@@ -1,4 +1,6 @@
 // Fields of text.
+#![tactic(auto)]
+
 pub mod address;
 pub mod put;
 

@@ -1,6 +1,8 @@
 // The library for integrators: the calls of the walk, the writing of T and F, the building of A, E
 // and S of PFML and the reading of their fields, and the frames, over numbers and slices. C sees a slice as
 // its pointer and its length. The caller keeps the state of a walk as words.
+#![tactic(auto)]
+
 ghost use Rattle.std.specs.Prelude.{◌≡◌, set};
 ghost use Rattle.reason.specs.ReasonNumbers.{notice, notice_of};
 ghost use Rattle.number.specs.Numbers.{reading_of};
@@ -22,7 +24,7 @@ use write::Wrote;
 
 // What a call answers: the paper's number, line and column, and a count of bytes, or the number
 // that a field holds.
-#[derive(Drop)]
+#[derive(Clone, Copy)]
 struct Numbers {
     number: u64,
     line: u64,

@@ -1,4 +1,6 @@
 // The walk over a wage file: opening, one line, the end; and a whole file in one slice.
+#![tactic(auto)]
+
 ghost use Rattle.std.specs.Prelude.{◌+◌, ◌≤◌, ◌≡◌, length, drop};
 ghost use Rattle.lines.specs.Lines.{first_line};
 ghost use Rattle.tables.specs.Room.{tables as tables_of};
@@ -18,7 +20,7 @@ use tables::{Employer, ids, list};
 // What is written into the employer list: the first so many entries zeroed, an entry at a place, a
 // count and cents at a place. A place past the end is none. The entry stands last, so that no place
 // after it is reckoned from its size.
-#[derive(Drop)]
+#[derive(Clone, Copy)]
 struct Writes {
     zeroed: usize,
     opened_at: usize,
@@ -118,7 +120,7 @@ pub fn open(held: Opening, ids: &mut [u32], list: &mut [Employer]) -> Answer
 
 // What a line asks of the employer list: whether its FEIN is among those of the first so many
 // entries.
-#[derive(Drop)]
+#[derive(Clone, Copy)]
 struct Asked {
     entries: usize,
     fein: u64,

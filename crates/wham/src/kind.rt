@@ -7,7 +7,7 @@ use wham_fields::{
     ACCOUNT_OF_S, AMENDED_OF_T, PAYMENTS_OF_T, PROCESSOR_OF_E, STATE_OF_A, STATE_OF_E,
 };
 
-#[derive(Drop)]
+#[derive(Clone, Copy)]
 pub enum Kind {
     // A
     Transmitter,

@@ -1,5 +1,7 @@
 // The amended withholding file of 275 characters: the edits of one line in the stated order, and
 // what the record on it says and asks.
+#![tactic(auto)]
+
 pub mod fitness;
 pub mod kind;
 pub mod place;

@@ -1,5 +1,7 @@
 // The fields of the six records of the amended withholding file: class beside first and last
 // column. A record is named by its letter, in the order A, E, S, R, T, F.
+#![tactic(auto)]
+
 pub mod field_rules;
 
 ghost use Rattle.std.specs.Prelude.{◌≡◌};
@@ -9,7 +11,7 @@ use field::class;
 
 // Which of Maine's specifications of this file is meant. The columns are the same in each; letters,
 // places and some rules are not.
-#[derive(Drop)]
+#[derive(Clone, Copy)]
 pub enum Edition {
     // Document 001.
     Of2024,

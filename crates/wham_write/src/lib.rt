@@ -1,5 +1,7 @@
 // The T and the F record of the amended withholding file that a walk accepts next, written into a
 // lent slice.
+#![tactic(auto)]
+
 ghost use Rattle.std.specs.Prelude.{◌≡◌, length};
 ghost use Rattle.reason.specs.ReasonNumbers.{notice};
 ghost use Rattle.state.specs.Walks.{walk_of, standing_of};

@@ -1,5 +1,7 @@
 // The T and the F record of PFML that a walk accepts next, written into a lent slice; and what the
 // writing of every format answers.
+#![tactic(auto)]
+
 ghost use Rattle.std.specs.Prelude.{◌≡◌, length};
 ghost use Rattle.reason.specs.ReasonNumbers.{notice, number_of};
 ghost use Rattle.state.specs.Unfit.{unfit};
@@ -17,7 +19,7 @@ use state::{Stage, State, fitness};
 use text::put;
 
 // The record is written; or it is not, and the slice is as it was.
-#[derive(Drop)]
+#[derive(Clone, Copy)]
 pub enum Wrote {
     Record,
     Refused(Refusal),
