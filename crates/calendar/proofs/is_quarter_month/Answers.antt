@@ -7,4 +7,4 @@ pub returns-in-3 : goal.returns-in-3
 returns-in-3 c = sym (months_quarter _ c.in-3.is)
 
 pub returns-in_default : goal.returns-in_default
-returns-in_default c = sym (not_true _ (λ t. c.in_default.rest.1 (quarter_months _ t)))
+returns-in_default c = sym (not_true _ (λ t. c.in_default.in_default-own.rest.1 (quarter_months _ t)))

@@ -1,0 +1,12 @@
+use Rattle.laws.specs.Spelling.{bytes}
+use Rattle.text.proofs.address.extension_edit.Goals as goal
+
+pub returns-in-State : goal.returns-in-State
+returns-in-State c = rw c.in-State.is c.state_extension.ensures
+
+pub returns-in-Province : goal.returns-in-Province
+unfolding bytes
+returns-in-Province c = rw c.in-Province.is c.pattern_edit.ensures
+
+pub returns-in-Unknown : goal.returns-in-Unknown
+returns-in-Unknown c = rw c.in-Unknown.is
