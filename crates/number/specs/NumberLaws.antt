@@ -186,7 +186,8 @@ from_read_back (suc n) line from v h l =
     put_untouched n line' (from + n) (v / 10) (from + n) (omega arith) (inr (omega arith))
     ∙ get_or-set_same line (from + n) (48 + v % 10) 0 (omega arith) in
     let val : v / 10 * 10 + (48 + v % 10 - 48) ≡ v = omega arith in
-    rw e (number_last n written 0 from ∙ rw (front, last, digit_is (v % 10) (omega arith), val))
+    let same : put_digits line (from + suc n) (suc n) v ≡ written = rw e in
+    ap (λ (w : List ℕ). number_from w 0 from (suc n)) same ∙ number_last n written 0 from ∙ rw (front, last, digit_is (v % 10) (omega arith), val)
 
 -- Reading what was written gives it back.
 pub read_back : (line : List ℕ) (first last v : ℕ) → 1 ≤ first → first ≤ last → last ≤ length line → width_of first last ≤ 19 → v < 10 ^ width_of first last
