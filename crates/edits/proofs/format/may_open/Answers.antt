@@ -1,0 +1,16 @@
+use mathlib.Core.Path.{ap}
+use Rattle.calendar.specs.Quarters.{is_allowed}
+use Rattle.edits.specs.Formats.{may_open}
+use Rattle.edits.proofs.format.may_open.Goals as goal
+
+pub returns-then-is_allowed : goal.returns-then-is_allowed
+unfolding may_open
+returns-then-is_allowed c =
+    let told = c in
+    rw (← ap is_allowed told.quarter_held.ensures, ← told.is_allowed.ensures, c.if-is_allowed.true) c.is_known.ensures
+
+pub returns : goal.returns
+unfolding may_open
+returns c =
+    let told = c in
+    rw (← ap is_allowed told.quarter_held.ensures, ← told.is_allowed.ensures, c.if-is_allowed.false)

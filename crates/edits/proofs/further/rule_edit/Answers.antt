@@ -1,0 +1,21 @@
+-- In the arm of each rule, the match has told that rule.
+use Rattle.edits.proofs.ShortLists.{of_one}
+use Rattle.edits.proofs.further.rule_edit.Goals as goal
+
+pub returns-in-YearHeld : goal.returns-in-YearHeld
+returns-in-YearHeld c = rw (c.in-YearHeld.is, of_one _) c.unless.ensures
+
+pub returns-in-QuarterOfE : goal.returns-in-QuarterOfE
+returns-in-QuarterOfE c = rw c.in-QuarterOfE.is c.quarter_of_e.ensures
+
+pub returns-in-ListRoom : goal.returns-in-ListRoom
+returns-in-ListRoom c = rw (c.in-ListRoom.is, of_one _) c.unless-in-ListRoom.ensures
+
+pub returns-in-AccountOfE : goal.returns-in-AccountOfE
+returns-in-AccountOfE c = rw (c.in-AccountOfE.is, of_one _, ← c.is_account.ensures) c.unless-in-AccountOfE.ensures
+
+pub returns-in-QuarterEnd : goal.returns-in-QuarterEnd
+returns-in-QuarterEnd c = rw (c.in-QuarterEnd.is, of_one _, ← c.is_last_day.ensures) c.unless-in-QuarterEnd.ensures
+
+pub returns-in-SecondOfS : goal.returns-in-SecondOfS
+returns-in-SecondOfS c = rw (c.in-SecondOfS.is, of_one _) c.unless-in-SecondOfS.ensures
