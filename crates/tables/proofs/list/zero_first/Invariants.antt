@@ -1,0 +1,12 @@
+-- Each turn wipes one more.
+use Prim.Native.Nat.{◌-◌, ◌≤◌}
+use mathlib.Core.Path.{◌≡◌}
+use lib.ListN.{length}
+use Rattle.tables.specs.Tables.{wiped, no_employer}
+use Rattle.tables.proofs.list.zero_first.Given as goal
+
+abbrev pub invariant-loop-i : goal.invariant-loop-i
+invariant-loop-i l = (l.i ≤ l.end) × (length l.list ≡ length l.initial.list) × (l.list ≡ wiped no_employer l.i l.initial.list)
+
+abbrev pub decreases-loop-i : goal.decreases-loop-i
+decreases-loop-i l = l.end - l.i
