@@ -1,0 +1,19 @@
+use Rattle.pfml.proofs.place.under_e.Goals as goal
+
+pub returns-in-Transmitter : goal.returns-in-Transmitter
+returns-in-Transmitter c = rw c.in-Transmitter.is
+
+pub returns-in-Employer : goal.returns-in-Employer
+returns-in-Employer c = rw c.in-Employer.is
+
+pub returns-in-Employee : goal.returns-in-Employee
+returns-in-Employee c = rw c.in-Employee.is c.under_saying.ensures
+
+pub returns-in-Total : goal.returns-in-Total
+returns-in-Total c = rw c.in-Total.is
+
+pub returns-in-Final : goal.returns-in-Final
+returns-in-Final c = rw c.in-Final.is
+
+pub returns-in-Unknown : goal.returns-in-Unknown
+returns-in-Unknown c = rw c.in-Unknown.is
