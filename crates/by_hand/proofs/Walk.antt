@@ -7,17 +7,17 @@ pub mod Locals
 pub mod Loops
 pub mod Steps
 pub mod Whole
-pub use Arrays.{repeated, typed-array, array_at, lends-array, array_back, array-given}
-pub use Calls.{Brings, held, made, Callee, total, unsaid, Asked, asks, asks-last}
-pub use Fronts.{front_of, number-copy, fronts}
-pub use Lent.{named-as, holding, KeptShared, KeptAgain, lends_shared, shared_back, lends_again, comes_back, twice, measures}
-pub use Locals.{locals, Places, envOf, lets_go}
-pub use Loops.{Nearer, nearer-wf, Turned}
-pub use Steps.{Field, words, word, lose, var, part, counts, refers, sets, resets, receives, replaces, relends, relends-front, tests, whens, big-lit}
-pub use Whole.{End, gone, had, Ends, kept-slice, given-slice, Exit, finishes, proves, proves-given}
+pub use Arrays.{repeated, typed_array, array_at, lends_array, array_back, array_given}
+pub use Calls.{Brings, held, made, Callee, total, unsaid, Asked, asks, asks_last}
+pub use Fronts.{front_of, number_copy, fronts}
+pub use Lent.{named_as, holding, KeptShared, KeptAgain, lends_shared, shared_back, lends_again, comes_back, twice, says_last, measures, measures_beside}
+pub use Locals.{locals, Places, env_of, lets_go}
+pub use Loops.{Nearer, nearer_wf, Turned}
+pub use Steps.{Field, words, word, lose, var, part, counts, refers, sets, resets, receives, replaces, relends, relends_front, tests, whens, big_lit}
+pub use Whole.{End, gone, had, Ends, kept_slice, given_slice, Exit, finishes, proves, proves_given}
 pub use mathlib.Core.Option.{none, some}
 pub use seplogic.Ra.Ura.{Ura}
-pub use seplogic.Ra.TreeShare.{full_share}
+pub use base.Fraction.{full_share}
 pub use mir.Syntax.{named, w8, w32, w64, ty_bool}
 pub use mir.Val.{Val, vunit, vbool, vint}
 pub use base.Logic.{SProp, emp, id⊢}
@@ -28,10 +28,11 @@ pub use prog.Wp.{Heap, Env, Tables, spot_of}
 unfoldable pub use prog.Wp.{after_turn}
 pub use ghost.Atoms.{Atoms}
 pub use contract.Monad.{Fun}
-pub use contract.Running.{given_of, tables}
+pub use contract.Running.{tables}
 unfoldable pub use contract.Running.{tables_of}
 pub use sound.WpLaws.{FmC, fm_of}
-pub use types.Kit.{Given, Item, Sq, prop, runs, at_ret, any_q, ‵, ◌$◌, !, by, rewrite, move, drop, fsplit, fjoin, feq_l}
+pub use types.Logic.{Logic}
+pub use types.Kit.{Item, Sq, prop, runs, at_ret, any_q, ‵, ◌$◌, !, by, rewrite, move, drop, fsplit, fjoin, feq_l}
 pub use types.Run.{look, look_raw, store, store_raw, forget, stop, hop, fld, from, load, lit, unit_lit, true_lit, false_lit, of_opd, bin, addr, and_then, no_more, assigns, assigns_last, first, blocks, loops, again, branches, skips, exec, returns, returns_within}
 pub use types.Part.{whole, sub, look_in, agg, rep}
 pub use denote.Array.{Array-Lawful}

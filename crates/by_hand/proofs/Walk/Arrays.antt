@@ -10,7 +10,7 @@ use mathlib.Core.List.{List, [], ◌∷◌}
 use lib.Dec.{T}
 use lib.ListN.{length, replicate, length-replicate}
 use seplogic.Ra.Ura.{Ura}
-use seplogic.Ra.TreeShare.{full_share}
+use base.Fraction.{full_share}
 use mir.Syntax.{named, ty_array}
 use mir.Raw.{raw as raw_ty}
 use mir.Val.{Val, WT, has_ty}
@@ -83,7 +83,7 @@ module _ {M : Type 1} {𝓤 : Ura M} {𝓛 : Logic 𝓤} {K : Type 0} {Γ : List
       lft_end t z $ move t (1 ∷ []) $ fsplit t $ drop t $ fsplit t $ use1 𝓛 (‵ (fres γ ((coded_holeys R).code (heres R zs)))) (𝓛.names.obs-res γ ((coded_holeys R).code (heres R zs))) $
       use1 𝓛 (‵ (finally R γ zs)) (res-finally 𝓛 (named 0) (ν ∷ []) R γ zs) $ move t (1 ∷ []) $ drop t $ ends_array t z R n b γ zs $ s)
 
-  -- where the slice was given for good to a call, which says its last list
+  -- where the slice was given for good to a call, which says its last list: the borrow that it hands back is let go before (`Lent.antt`'s `says_last`)
   pub array_given : K → Soaks G → (R : RattleType) (n b : ℕ) (γ : GName) (zs : List R.Denot) {m ν : ℕ}
       → Step K 𝓛 (‵ (froom (ty_array (lone R.mir) n) b 0) ∷ Γ) G (‵ (flft (ν ∷ []) full_share) ∷ ‵ (fsep (finally R γ zs) (feq ℕ (length zs) m)) ∷ ‵ (flent (ν ∷ []) (Held R n b 0 γ)) ∷ Γ) G
   array_given t z R n b γ zs = step (λ s. lft_end t z $ move t (1 ∷ []) $ fsplit t $ move t (1 ∷ []) $ drop t $ ends_array t z R n b γ zs $ s)

@@ -1,14 +1,14 @@
 -- A call in a walk, of any function whose `ensures` states a fact.
 --     Brings           of an argument, what its type owns is in the context (`held`), or it is had for nothing, as of plain data (`made`)
 --     brought          the entries of a context that are so held
---     left_of          the entries that a call leaves: of each `&mut` that was passed, what says its last value
+--     left_of          the entries that a call leaves: of each `&mut` that was passed, what says its last value, beside the borrow that comes back with it
 --     asks, asks_last  the call, and one that is the last statement of its part. The tokens of the callee's lifetimes and what is held of the arguments stand first; afterwards the tokens and what is left do, and what the callee's `ensures` states is in hand
 -- Each step takes `Logic`, the rules of the kit's logic, and that the table of calls is monotone under a frame.
 use mathlib.Core.Path.{◌≡◌, sym, ap, subst}
 use Prim.Native.Nat.{ℕ}
 use mathlib.Core.List.{List, [], ◌∷◌, ◌++◌}
 use seplogic.Ra.Ura.{Ura}
-use mir.Syntax.{Name, Place, Opd as Operand, Body, seq, call}
+use mir.Syntax.{Callee as Name, Place, Opd as Operand, Body, seq, call}
 use mir.Val.{Val}
 use base.Logic.{SProp, ent, sep, emp, id⊢, via, mono∗, mono_l, mono_r, emp∗, comm∗, snd∗, both⊢}
 use prog.Wp.{Env, Calls, Loops, eval_opds}
@@ -62,7 +62,7 @@ module _ {M : Type 1} {𝓤 : Ura M} (𝓛 : Logic 𝓤) where
 module _ {M : Type 1} {𝓤 : Ura M} where
   abbrev left_at : {D : Type 0} (e : Exit D) (x : D) → Last e x → List (Item 𝓤) → List (Item 𝓤)
   left_at unchanged x w Γ = Γ
-  left_at (leaves L l S s) x w Γ = ‵ (l x w) ∷ Γ
+  left_at (leaves L l S s r₀) x w Γ = ‵ (l x w) ∷ Γ
 
   abbrev pub left_of : {n : ℕ} (κs : Lfts n) (ss : List (Slot n)) (ks : Kepts ss) (a : Denots (types_at ss κs)) → Fins κs ss ks a → List (Item 𝓤)
   left_of κs [] ks a ws = []
@@ -71,7 +71,7 @@ module _ {M : Type 1} {𝓤 : Ura M} where
 module _ {M : Type 1} {𝓤 : Ura M} (𝓛 : Logic 𝓤) where
   left_one : {D : Type 0} (e : Exit D) (x : D) (w : Last e x) (Γ : List (Item 𝓤)) (Q : SProp 𝓤) → ent 𝓤 Q (⋆ 𝓛 Γ) → ent 𝓤 (sep 𝓤 (sem 𝓛 (left e x w)) Q) (⋆ 𝓛 (left_at e x w Γ))
   left_one unchanged x w Γ Q h = via 𝓤 Q (snd∗ 𝓤 (emp 𝓤) Q) h
-  left_one (leaves L l S s) x w Γ Q h = via 𝓤 (sep 𝓤 (sem 𝓛 (l x w)) (⋆ 𝓛 Γ)) (mono_r 𝓤 (sem 𝓛 (l x w)) h) (push 𝓛 (‵ (l x w)) Γ)
+  left_one (leaves L l S s r₀) x w Γ Q h = via 𝓤 (sep 𝓤 (sem 𝓛 (l x w)) (⋆ 𝓛 Γ)) (mono_r 𝓤 (sem 𝓛 (l x w)) h) (push 𝓛 (‵ (l x w)) Γ)
 
   left_all : {n : ℕ} (κs : Lfts n) (ss : List (Slot n)) (ks : Kepts ss) (a : Denots (types_at ss κs)) (ws : Fins κs ss ks a) → ent 𝓤 (sem 𝓛 (lasts_of κs ss ks a ws)) (⋆ 𝓛 (left_of κs ss ks a ws))
   left_all κs [] ks a ws = id⊢ 𝓤 (emp 𝓤)

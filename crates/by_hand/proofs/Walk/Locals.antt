@@ -9,12 +9,12 @@ use Prim.Native.Nat.{ℕ, zero, suc}
 use mathlib.Core.List.{List, [], ◌∷◌, ◌++◌, append_assoc}
 use mathlib.Core.Option.{Option, none, some}
 use seplogic.Ra.Ura.{Ura}
-use seplogic.Ra.TreeShare.{full_share}
+use base.Fraction.{full_share}
 use lib.Dec.{T}
 use mir.Syntax.{Ty, Local, local, Fn}
 use mir.Val.{Val, WT, has_ty}
 use base.Logic.{SProp, ent, sep, wand, emp, id⊢, via, comm∗, fst∗, snd∗, emp∗, mono_r, wand_i, apply∗}
-use base.Fml.{Fml, ftrue, ffalse, feq, flt, fsep, fand, for, fwand, fex, fall, fupd, fat, froom, fdies, flft, fdead, fobs, fauth, fres, fbor, fobor, flent, fshr_bor}
+use base.Fml.{Fml, ftrue, ffalse, feq, flt, fsep, fand, for, fwand, fex, fall, fupd, fhide, fat, froom, fleft, fdies, flft, fdead, fobs, fauth, fres, fown, fbor, fobor, flent, fshr_bor, finv, fnamed, ftok, fkid, fme, fsent}
 use prog.Wp.{Calls, Loops, WpFn, write, release}
 use types.Logic.{Logic, sem}
 use types.Kit.{Item, ‵, raw, ◌⊛◌, some as some_item, given, later, Goal, prop, runs, allocs, params', passes, frees, at_ret, mean, ⋆, ++⊢, ⊢++, pop, push, Seq, Step, step, ◌$◌, ◌∵◌, !, qed, move, use1, split, join, learn, check, use2, by, frame, done, aim}
@@ -135,18 +135,27 @@ held_in (fwand P Q) = none
 held_in (fex d F) = none
 held_in (fall d F) = none
 held_in (fupd P) = none
+held_in (fhide P) = none
 held_in (fat q τ b o v) = some v
 held_in (froom τ b o) = none
+held_in (fleft q τ τs b o) = none
 held_in (fdies τ b) = none
 held_in (flft κ q) = none
 held_in (fdead κ) = none
 held_in (fobs γ x) = none
 held_in (fauth γ x) = none
 held_in (fres γ x) = none
+held_in (fown R γ x) = none
 held_in (fbor κ P) = none
 held_in (fobor κ q P) = none
 held_in (flent κ P) = none
 held_in (fshr_bor κ Φ) = none
+held_in (finv P) = none
+held_in (fnamed n P) = none
+held_in (ftok m) = none
+held_in (fkid h a) = none
+held_in (fme h) = none
+held_in (fsent h) = none
 
 module _ {M : Type 1} {𝓤 : Ura M} where
   abbrev held : Item 𝓤 → Option Val

@@ -16,7 +16,7 @@ use Prim.Native.Nat.{ℕ, zero, suc, ◌+◌, ◌*◌, ◌<◌, ◌^◌}
 use mathlib.Core.Bool.{Bool, not}
 use mathlib.Core.List.{List, [], ◌∷◌}
 use seplogic.Ra.Ura.{Ura}
-use seplogic.Ra.TreeShare.{full_share}
+use base.Fraction.{full_share}
 use lib.Dec.{T}
 use mir.Syntax.{Sym, Ty, Tys, tcons, tnil, ty_struct, Lifetime, Mutability, ty_ref, ty_int, w64, Width, deref, field, place, Opd as Operand, copy, int_big, Rv as RValue, addr_of, aggregate, Body, skip, seq, assign, cond, exit}
 use mir.Fields.{get_v}

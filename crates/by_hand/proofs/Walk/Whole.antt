@@ -15,7 +15,7 @@ use mir.Val.{Val}
 use base.Logic.{SProp, ent, sep, emp, id⊢, via, mono∗, mono_r, emp∗}
 use base.Fml.{ftrue, flft}
 use prog.Model.{Model}
-use prog.Routine.{Name, Env}
+use prog.Routine.{Callee, Env}
 use prog.Wp.{WpFn, Tables, Closed}
 use types.Logic.{Logic, sem}
 use contract.Monad.{fact, fact_i}
@@ -89,7 +89,7 @@ module _ {n : ℕ} where
   abbrev pub kept_slice : (j : ℕ) (ok : AllWithin n (j ∷ [])) (s : Slot n) → End (mut_slice_of (j ∷ []) ok s) yes
   kept_slice j ok s = had (stay_slice (j ∷ []) ok s) (λ M 𝓤 𝓛. Goes-slice 𝓛 n j ok s)
 
-  -- one that was given up for good, as by passing it on: what says its last value
+  -- one that was given up for good, as by passing it on: what says its last value, beside the borrow that came back with it
   abbrev pub given_slice : (j : ℕ) (ok : AllWithin n (j ∷ [])) (s : Slot n) → End (mut_slice_of (j ∷ []) ok s) yes
   given_slice j ok s = had (gave_slice (j ∷ []) ok s) (λ M 𝓤 𝓛. Goes-gave_slice 𝓛 n j ok s)
 
@@ -156,7 +156,7 @@ module _ {M : Type 1} {𝓤 : Ura M} (𝓛 : Logic 𝓤) (𝓜 : Model 𝓤 𝓛
   abbrev Types : Lfts T.signature.lifetimes → List RattleType
   Types κs = types_at T.signature.params κs
 
-  module _ (γ : Env) (k : Name) (f : Fn) (closed : Closed 𝓤 H (tables 𝓤 H 𝓜 𝓡 γ).C (tables 𝓤 H 𝓜 𝓡 γ).Λ k f)
+  module _ (γ : Env) (k : Callee) (f : Fn) (closed : Closed 𝓤 H (tables 𝓤 H 𝓜 𝓡 γ).C (tables 𝓤 H 𝓜 𝓡 γ).Λ k f)
       (sp : (κs : Lfts T.signature.lifetimes) → Spells (Types κs)) (tl : (κs : Lfts T.signature.lifetimes) → Tellss (Types κs) (Ises (Types κs)) (sp κs)) where
     abbrev 𝓣 : Tables 𝓤 H
     𝓣 = tables_of 𝓤 H 𝓜 (tables 𝓤 H 𝓜 𝓡 γ)
