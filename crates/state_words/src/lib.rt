@@ -104,8 +104,8 @@ fn words_of(st: State) -> [u64; WORDS]
 // The words of a state at the front of those that are lent, which tell that state again; where
 // these are too few, nothing is written.
 pub fn put_words(st: State, words: &mut [u64])
-    ensures words_after { words.new ≡ put_words (walk_of st) words.old }
-    ensures words_after_2 { word_count ≤ length words.old → walk_in words.new ≡ walk_of st }
+    ensures written { words.new ≡ put_words (walk_of st) words.old }
+    ensures read_back { word_count ≤ length words.old → walk_in words.new ≡ walk_of st }
 {
     if words.len() < WORDS {
         return;

@@ -20,12 +20,10 @@ returns-then-month_of-q c =
 pub returns : goal.returns
 unfolding is_last_day
 returns c =
-    let month = c in
-    let year = month in
     rw (
-      ← year.year_of.ensures,
-      eq-eqb _ _ month.if-year_of-q.false,
-      ← month.month_of.ensures,
+      ← c.year_of.ensures,
+      eq-eqb _ _ c.if-year_of-q.false,
+      ← c.month_of.ensures,
       eq-eqb _ _ c.if-month_of-q.false,
       ← c.day_of.ensures,
       ← c.days_in.ensures,

@@ -5,14 +5,12 @@ use Rattle.calendar.proofs.timing_of.Goals as goal
 pub returns-then-is_same : goal.returns-then-is_same
 unfolding timing_of
 returns-then-is_same c =
-    let asked = c in
-    rw (← asked.is_after.ensures, asked.if-is_after.true, ← asked.current_quarter.ensures, ← c.is_same.ensures, c.if-is_same.true)
+    rw (← c.is_after.ensures, c.if-is_after.true, ← c.current_quarter.ensures, ← c.is_same.ensures, c.if-is_same.true)
 
 pub returns-then-is_after : goal.returns-then-is_after
 unfolding timing_of
 returns-then-is_after c =
-    let asked = c in
-    rw (← asked.is_after.ensures, asked.if-is_after.true, ← asked.current_quarter.ensures, ← c.is_same.ensures, c.if-is_same.false)
+    rw (← c.is_after.ensures, c.if-is_after.true, ← c.current_quarter.ensures, ← c.is_same.ensures, c.if-is_same.false)
 
 pub returns : goal.returns
 unfolding timing_of

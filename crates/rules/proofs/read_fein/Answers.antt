@@ -14,13 +14,11 @@ returns-then-begins_with_69 c = rw (sym c.read_number-n.ensures ∙ ap reading_o
 pub returns-then-is_nine_zeros : goal.returns-then-is_nine_zeros
 unfolding fein_in
 returns-then-is_nine_zeros c =
-    let tested = c in
-    let read = sym tested.read_number-n.ensures ∙ ap reading_of tested.in-Value.is in
-    rw (read, sym tested.begins_with_69.ensures ∙ c.if-begins_with_69.false, sym c.is_nine_zeros.ensures ∙ c.if-is_nine_zeros.true)
+    let read = sym c.read_number-n.ensures ∙ ap reading_of c.in-Value.is in
+    rw (read, sym c.begins_with_69.ensures ∙ c.if-begins_with_69.false, sym c.is_nine_zeros.ensures ∙ c.if-is_nine_zeros.true)
 
 pub returns : goal.returns
 unfolding fein_in
 returns c =
-    let tested = c in
-    let read = sym tested.read_number-n.ensures ∙ ap reading_of tested.in-Value.is in
-    rw (read, sym tested.begins_with_69.ensures ∙ c.if-begins_with_69.false, sym c.is_nine_zeros.ensures ∙ c.if-is_nine_zeros.false)
+    let read = sym c.read_number-n.ensures ∙ ap reading_of c.in-Value.is in
+    rw (read, sym c.begins_with_69.ensures ∙ c.if-begins_with_69.false, sym c.is_nine_zeros.ensures ∙ c.if-is_nine_zeros.false)

@@ -49,10 +49,9 @@ overflow_add-k c = let room = c.well_formed.1.1.1.1.1.0 in search rules
 -- the field passes
 pub fields-preserved : goal.fields-preserved
 fields-preserved c =
-    let l = c in
-    let o = l in (
-      l.loop-at.invariant.0,
-      o.fields.invariant.1 ∙ first_next _ _ _ l.fields-test.true (class_passes _ _ _ _ _ _ _ c.row_at-row.ensures c.class_of-class.ensures _ _
+    (
+      c.loop-at.invariant.0,
+      c.fields.invariant.1 ∙ first_next _ _ _ c.fields-test.true (class_passes _ _ _ _ _ _ _ c.row_at-row.ensures c.class_of-class.ensures _ _
           (c.loop-at.invariant.1 ∙ first_done _ _ _ c.loop-at-test.false)
           (c.rule_of-rule.ensures ∙ ap rule_of c.number_at.ensures) c.rules_edit-e.ensures ∙ ap finding_of c.in_default-e-2.is),
     )
@@ -65,10 +64,9 @@ returns-after-fields c = let o = c.fields in ap finding_of o.invariant.0 ∙ sym
 pub returns-in-Broken : goal.returns-in-Broken
 returns-in-Broken c =
     let told = ap finding_of c.in-Broken.is in
-    let o = c in
     told
-    ∙ sym (o.fields.invariant.1
-    ∙ first_found _ _ _ o.fields-test.true _ _
+    ∙ sym (c.fields.invariant.1
+    ∙ first_found _ _ _ c.fields-test.true _ _
     (class_breaks _ _ _ _ _ _ _ c.row_at-row.ensures c.class_of-class.ensures _ _
     (lead_breaks _ _ _ _ _ _ (sym c.lead_edit-lead.ensures ∙ told))))
 
@@ -76,19 +74,16 @@ returns-in-Broken c =
 pub returns-in-Broken-e : goal.returns-in-Broken-e
 returns-in-Broken-e c =
     let told = ap finding_of c.in-Broken-e.is in
-    let l = c in
-    let o = l in
     told
-    ∙ sym (o.fields.invariant.1
-    ∙ first_found _ _ _ o.fields-test.true _ _
-    (class_breaks _ _ _ _ _ _ _ l.row_at-row.ensures l.class_of-class.ensures _ _
-    (l.loop-at.invariant.1 ∙ first_found _ _ _ c.loop-at-test.true _ _ (sym (column_of c.allowed_in-allowed.result (capitals c.args.line.now) c.loop-at.at) ∙ sym c.column_edit-e.ensures ∙ told))))
+    ∙ sym (c.fields.invariant.1
+    ∙ first_found _ _ _ c.fields-test.true _ _
+    (class_breaks _ _ _ _ _ _ _ c.row_at-row.ensures c.class_of-class.ensures _ _
+    (c.loop-at.invariant.1 ∙ first_found _ _ _ c.loop-at-test.true _ _ (sym (column_of c.allowed_in-allowed.result (capitals c.args.line.now) c.loop-at.at) ∙ sym c.column_edit-e.ensures ∙ told))))
 
 -- left behind a broken rule
 pub returns-in-Broken-e-2 : goal.returns-in-Broken-e-2
 returns-in-Broken-e-2 c =
     let told = ap finding_of c.in-Broken-e-2.is in
-    let o = c in
-    told ∙ sym (o.fields.invariant.1 ∙ first_found _ _ _ o.fields-test.true _ _ (class_passes _ _ _ _ _ _ _ c.row_at-row.ensures c.class_of-class.ensures _ _
+    told ∙ sym (c.fields.invariant.1 ∙ first_found _ _ _ c.fields-test.true _ _ (class_passes _ _ _ _ _ _ _ c.row_at-row.ensures c.class_of-class.ensures _ _
     (c.loop-at.invariant.1 ∙ first_done _ _ _ c.loop-at-test.false)
     (c.rule_of-rule.ensures ∙ ap rule_of c.number_at.ensures) c.rules_edit-e.ensures ∙ told))

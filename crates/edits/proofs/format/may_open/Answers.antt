@@ -6,11 +6,9 @@ use Rattle.edits.proofs.format.may_open.Goals as goal
 pub returns-then-is_allowed : goal.returns-then-is_allowed
 unfolding may_open
 returns-then-is_allowed c =
-    let told = c in
-    rw (← ap is_allowed told.quarter_held.ensures, ← told.is_allowed.ensures, c.if-is_allowed.true) c.is_known.ensures
+    rw (← ap is_allowed c.quarter_held.ensures, ← c.is_allowed.ensures, c.if-is_allowed.true) c.is_known.ensures
 
 pub returns : goal.returns
 unfolding may_open
 returns c =
-    let told = c in
-    rw (← ap is_allowed told.quarter_held.ensures, ← told.is_allowed.ensures, c.if-is_allowed.false)
+    rw (← ap is_allowed c.quarter_held.ensures, ← c.is_allowed.ensures, c.if-is_allowed.false)

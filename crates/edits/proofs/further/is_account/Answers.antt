@@ -6,5 +6,4 @@ returns-then-letters_in-open c = rw (← c.letters_in.ensures, ne_eqb _ _ c.if-l
 
 pub returns : goal.returns
 returns c =
-    let head = c in
-    rw (← head.letters_in.ensures, eq-eqb _ _ head.if-letters_in-open.false, ← c.letters_in-2.ensures)
+    rw (← c.letters_in.ensures, eq-eqb _ _ c.if-letters_in-open.false, ← c.letters_in-2.ensures)

@@ -5,11 +5,9 @@ use Rattle.edits.proofs.further.quarter_of_e.Goals as goal
 
 pub returns-then-is_first_e : goal.returns-then-is_first_e
 returns-then-is_first_e c =
-    let first = c in
-    rw (of_two _ _, sym first.is_first_e.ensures ∙ first.if-is_first_e.true, ← c.quarter_held-held.ensures, ← c.is_after.ensures)
+    rw (of_two _ _, sym c.is_first_e.ensures ∙ c.if-is_first_e.true, ← c.quarter_held-held.ensures, ← c.is_after.ensures)
     (c.unless.ensures ∙ sym (or_fine _))
 
 pub returns : goal.returns
 returns c =
-    let first = c in
-    rw (of_two _ _, sym first.is_first_e.ensures ∙ first.if-is_first_e.false) c.unless-2.ensures
+    rw (of_two _ _, sym c.is_first_e.ensures ∙ c.if-is_first_e.false) c.unless-2.ensures

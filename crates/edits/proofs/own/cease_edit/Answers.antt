@@ -10,10 +10,9 @@ returns-in_default c = rw (← c.read_number-n.ensures, c.edit_in.ensures, c.in_
 pub returns-then-date-eq0 : goal.returns-then-date-eq0
 unfolding cease_test
 returns-then-date-eq0 c =
-    let read = c in
     rw (
-      ← read.read_number-n.ensures,
-      read.in-Value.is,
+      ← c.read_number-n.ensures,
+      c.in-Value.is,
       ← c.is_final.ensures,
       c.if-is_final.true,
       eq-eqb _ _ c.if-date-eq0.true,
@@ -22,13 +21,11 @@ returns-then-date-eq0 c =
 pub returns-then-is_final : goal.returns-then-is_final
 unfolding cease_test
 returns-then-is_final c =
-    let final = c in
-    let read = final in
     rw (
-      ← read.read_number-n.ensures,
-      read.in-Value.is,
-      ← final.is_final.ensures,
-      final.if-is_final.true,
+      ← c.read_number-n.ensures,
+      c.in-Value.is,
+      ← c.is_final.ensures,
+      c.if-is_final.true,
       ne_eqb _ _ c.if-date-eq0.false,
       ← c.is_date.ensures,
     )
@@ -37,10 +34,9 @@ returns-then-is_final c =
 pub returns : goal.returns
 unfolding cease_test
 returns c =
-    let read = c in
     rw (
-      ← read.read_number-n.ensures,
-      read.in-Value.is,
+      ← c.read_number-n.ensures,
+      c.in-Value.is,
       ← c.is_final.ensures,
       c.if-is_final.false,
     )

@@ -5,8 +5,7 @@ use Rattle.edits.proofs.own.third_quarter_edit.Goals as goal
 pub returns-then-value_in-eq9 : goal.returns-then-value_in-eq9
 unfolding third_quarter_test
 returns-then-value_in-eq9 c =
-    let tested = c in
-    rw (← tested.value_in.ensures, eq-eqb _ _ tested.if-value_in-eq9.true, ← c.read_flag.ensures) c.edit_in.ensures
+    rw (← c.value_in.ensures, eq-eqb _ _ c.if-value_in-eq9.true, ← c.read_flag.ensures) c.edit_in.ensures
 
 pub returns : goal.returns
 unfolding third_quarter_test

@@ -11,17 +11,15 @@ unfolding first_broken
 returns-in-Nothing c = rw c.in-Nothing.is
 
 pub returns-in-YearInTime : goal.returns-in-YearInTime
-returns-in-YearInTime c = let told = c in
-    let held = told.quarter_held-held in
-    rw (told.in-YearInTime.is, of_one _, ← ap current_quarter held.ensures, ← c.current_quarter.ensures) c.unless.ensures
+returns-in-YearInTime c = let held = c.quarter_held-held in
+    rw (c.in-YearInTime.is, of_one _, ← ap current_quarter held.ensures, ← c.current_quarter.ensures) c.unless.ensures
 
 pub returns-in-QuarterInTime : goal.returns-in-QuarterInTime
-returns-in-QuarterInTime c = let asked = c in
-    let held = asked.quarter_held-held in
+returns-in-QuarterInTime c = let held = c.quarter_held-held in
     rw (
-      asked.in-QuarterInTime.is,
-      ← asked.quarter_on.ensures,
-      ← ap (λ (q : Quarter). timing_of q asked.quarter_on.result) held.ensures,
+      c.in-QuarterInTime.is,
+      ← c.quarter_on.ensures,
+      ← ap (λ (q : Quarter). timing_of q c.quarter_on.result) held.ensures,
       ← c.timing_of.ensures,
     ) c.quarter_in_time.ensures
 
@@ -59,11 +57,9 @@ pub returns-in-FileWagesOfS : goal.returns-in-FileWagesOfS
 returns-in-FileWagesOfS c = rw (c.in-FileWagesOfS.is, of_one _) c.unless-in-FileWagesOfS.ensures
 
 pub returns-in-FinalIfCurrent : goal.returns-in-FinalIfCurrent
-returns-in-FinalIfCurrent c = let told = c in
-    let first = told in
-    rw (
-      told.in-FinalIfCurrent.is,
-      ← ap (λ (q : Quarter). timing_of q first.args.around.filed) first.quarter_held-held.ensures,
+returns-in-FinalIfCurrent c = rw (
+      c.in-FinalIfCurrent.is,
+      ← ap (λ (q : Quarter). timing_of q c.args.around.filed) c.quarter_held-held.ensures,
       ← c.timing_of-in-FinalIfCurrent.ensures,
     ) c.final_if_current.ensures
 

@@ -10,9 +10,8 @@ use Rattle.text.proofs.put.in_capitals.Goals as goal
 
 pub loop-i-preserved : goal.loop-i-preserved
 loop-i-preserved c =
-    let at = c in
-    let l = at.loop-i in
-    let line₀ = at.args.line.now in
+    let l = c.loop-i in
+    let line₀ = c.args.line.now in
     let char = c.char_at-c.result in
     let read : char ≡ get_or (capitals (capital_to line₀ l.i)) l.i 0 = rw (← l.invariant.2) c.char_at-c.ensures in
     (omega arith, search rules, ap (λ t. set t l.i char) l.invariant.2 ∙ capital_more line₀ l.i char (omega arith) read)

@@ -17,9 +17,8 @@ loop-i-preserved c =
 
 pub returns-then-line-at : goal.returns-then-line-at
 returns-then-line-at c =
-    let loop = c in
-    let text = loop.args.text.now in
-    sym (loop.loop-i.invariant.1 ∙ text_past _ text _ loop.loop-i.i c.if-line-at.true)
+    let text = c.args.text.now in
+    sym (c.loop-i.invariant.1 ∙ text_past _ text _ c.loop-i.i c.if-line-at.true)
 
 pub returns : goal.returns
 returns c = sym (c.loop-i.invariant.1 ∙ text_done _ _ _ _ c.loop-i-test.false)
