@@ -1,0 +1,17 @@
+-- Field after field.
+use Rattle.laws.specs.Spelling.{bytes}
+use Rattle.write.specs.Records.{put_all, total_record}
+use Rattle.write.proofs.put_t.Goals as goal
+
+pub returns : goal.returns
+unfolding total_record put_all bytes
+returns c =
+    rw (
+      c.write_at-3.ensures,
+      c.write_at-2.ensures,
+      c.write_text_at-2.ensures,
+      c.write_at.ensures,
+      c.write_text_at.ensures,
+      c.blank_line.ensures,
+      c.requires,
+    )
