@@ -1,0 +1,4 @@
+use Rattle.build.proofs.read.field_first.Goals as goal
+
+pub returns : goal.returns
+returns c = rw (← c.row_of-row.ensures)
