@@ -39,14 +39,20 @@ def build(folder=BUILT, flags=None):
 
 
 def newest(folder):
-    return max(os.path.getmtime(os.path.join(at, name)) for at, _, names in os.walk(folder) for name in names)
+    """When the last of its files was changed, but for those that `rt` makes in folders out."""
+    times = []
+    for at, inside, names in os.walk(folder):
+        inside[:] = [name for name in inside if name != "out"]
+        times += [os.path.getmtime(os.path.join(at, name)) for name in names]
+    return max(times)
 
 
 def proved(name="acknowledge"):
-    """A proved program for this machine: as `rt check` builds it, or, where that is not for this machine, compiled once more, and linked as the others are."""
+    """A proved program for this machine: as `rt run` builds it, or, where that is not for this machine, compiled once more, and linked as the others are."""
     if platform.machine() == "x86_64":
-        subprocess.run(["rt", "check", name], cwd=ROOT, check=True, stdout=subprocess.DEVNULL)
-        return os.path.join(ROOT, "target", "bin", name)
+        crate = os.path.join(ROOT, "crates", name)
+        subprocess.run(["rt", "run"], cwd=crate, check=True, stdin=subprocess.DEVNULL, stdout=subprocess.DEVNULL, stderr=subprocess.DEVNULL)
+        return os.path.join(crate, "out", name)
     program = os.path.join(ROOT, "target", "native", name)
     if not os.path.exists(program) or os.path.getmtime(program) < newest(os.path.join(ROOT, "crates")):
         words = [os.path.join(ROOT, "tools", "native-build"), name, program]

@@ -305,11 +305,16 @@ def numbers_in(pattern, text, what):
     return [int(n) for n in re.findall(r"\d+", found(pattern, text, what).group(1))]
 
 
+def list_of(record):
+    """The name, in specs, of a record's list of fields."""
+    return "fields_of_" + record.lower()
+
+
 def listed_fields(text, record):
     """The rows of a record's list in specs, each with the name beside it; one that is a definition's name has its columns there."""
     row = r"row (?:\(More )?(\w+)\)? (\d+) (\d+)"
     named = {name: row for name, *row in re.findall(r"^(\w+) = " + row + "$", text, re.M)}
-    body = found(r"\nfieldsOf%s =\n(.*?)\n    \[\]" % record, text, "fieldsOf" + record).group(1)
+    body = found(r"\n%s =\n(.*?)\n    \[\]" % list_of(record), text, list_of(record)).group(1)
     rows = [(named[name] if name else own, beside) for name, *own, beside in re.findall(r"^    (?:(\w+)|%s) ∷ *(?:-- (.*))?" % row, body, re.M)]
     return [(c, int(a), int(b), beside) for (c, a, b), beside in rows]
 
@@ -321,8 +326,8 @@ def is_short_for(name, full):
 
 
 def code_reasons(text):
-    """Each reason's name with the number in the comment above it, and with the number that number_of gives it."""
-    told = {name: int(n) for n, name in re.findall(r"// (\d+): [^\n]*\n    (\w+),", text)}
+    """Each reason's name with the number at the head of the comment above it, and with the number that number_of gives it."""
+    told = {name: int(n) for n, name in re.findall(r"// (\d+): [^\n]*\n(?:    // [^\n]*\n)*    (\w+),", text)}
     given = {name: int(n) for name, n in re.findall(r"Reason::(\w+) => (\d+),", text)}
     return told, given
 
@@ -388,9 +393,9 @@ def compare_fields(read, source, fields):
         same("%s: columns and classes of FIELDS" % record, wanted, rows[k] if k < len(rows) else [])
         same("%s: columns and classes of tests/paper_fields.py" % record, wanted, [(camel(c), a, b) for c, a, b in paper_fields.ROWS[record]])
         listed = listed_fields(specs, record)
-        same("%s: columns and classes of fieldsOf%s" % (record, record), wanted, [row[:3] for row in listed])
+        same("%s: columns and classes of %s" % (record, list_of(record)), wanted, [row[:3] for row in listed])
         wrong = ["%s for %s" % (row[3], full[3]) for row, full in zip(listed, fields[record]) if not is_short_for(row[3], full[3])]
-        say(not wrong, "%s: the names in fieldsOf%s are the source's" % (record, record), "; ".join(wrong))
+        say(not wrong, "%s: the names in %s are the source's" % (record, list_of(record)), "; ".join(wrong))
 
 
 # In document 001 two printed lengths are not last - first + 1, B 19-264 and E 229-257. The columns decide.
@@ -420,9 +425,9 @@ def compare_wham(read, source, fields):
     for k, record in enumerate(WHAM_RECORDS):
         wanted = [row[:3] for row in fields[record]]
         same("001, %s: columns and classes of FIELDS" % record, wanted, rows[k] if k < len(rows) else [])
-        same("001, %s: columns and classes of fieldsOf%s" % (record, record), wanted, [row[:3] for row in listed_fields(specs, record)])
+        same("001, %s: columns and classes of %s" % (record, list_of(record)), wanted, [row[:3] for row in listed_fields(specs, record)])
     order = found(r"\nrecords = (.*?) ∷ \[\]", specs, "records").group(1).split(" ∷ ")
-    same("records, in specs, has them in this order", ["fieldsOf" + record for record in WHAM_RECORDS], order)
+    same("records, in specs, has them in this order", [list_of(record) for record in WHAM_RECORDS], order)
     same("ENTITY of wham is the entity code", "WHAM", found(r'const ENTITY: \[u8; 4\] = \*b"(.*?)";', read("crates/wham/src/lib.rt"), "ENTITY").group(1))
     same("and so it is in specs", ["WHAM"], re.findall(r'code = bytes "(.*?)"', read("crates/wham/specs/Edits.antt")))
 
@@ -447,14 +452,14 @@ def compare_codes(read, source, paper):
     same("CODES: states, then provinces", states + provinces, re.findall(r'\*b"(..)"', code))
     same("STATES counts the states", [len(states)], numbers_in(r"const STATES: usize = (\d+)", code, "STATES"))
     for name, wanted in (("states", states), ("provinces", provinces)):
-        same("%s, in specs" % name, wanted, found(r'\n%s = codesIn \(bytes "([^"]*)"\)' % name, specs, name).group(1).split(" "))
+        same("%s, in specs" % name, wanted, found(r'\n%s = codes_in \(bytes "([^"]*)"\)' % name, specs, name).group(1).split(" "))
 
 
 def compare_reasons(read, paper, later):
     told, given = code_reasons(read("crates/reason/src/lib.rt"))
     same("the numbers of the reasons are those of document 01 and of the requests that are built", sorted({*paper_numbers(paper), *later}), sorted(given.values()))
     same("each reason's comment has its number", sorted(given.items()), sorted(told.items()))
-    specs = re.findall(r"\nnumberOf (\w+) = (\d+)", read("crates/reason/specs/ReasonNumbers.antt"))
+    specs = re.findall(r"\nnumber_of (\w+) = (\d+)", read("crates/reason/specs/ReasonNumbers.antt"))
     same("the numbers in specs are those of the code", sorted(given.items()), sorted((name, int(n)) for name, n in specs))
 
 

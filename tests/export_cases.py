@@ -1,8 +1,8 @@
 #!/usr/bin/env python3
 """The exports for C and Rust: the library built, the C programs over it, the header, the Rust crate over it.
 
-It needs the kit (`rt`), a C compiler of the machine (`cc`) and cargo. The library is for x86-64; on another machine the C programs run under the kit's
-emulator, and the Rust crate is compiled and not run.
+It needs the kit (`rt`), a C compiler of the machine (`cc`) and cargo. The library is for x86-64; on another machine the C programs need an emulator, as
+tools/run-program says, and the Rust crate is compiled and not run.
 """
 import os
 import platform
@@ -146,7 +146,7 @@ def stack_on_every_path():
 
 def exports():
     source = "".join(read("crates", "wage", "src", name).decode() for name in sorted(os.listdir(os.path.join(ROOT, "crates", "wage", "src"))))
-    return sorted(re.findall(r'#\[no_mangle\]\s+pub extern "C" fn (\w+)', source))
+    return sorted(re.findall(r'#\[unsafe\(no_mangle\)\]\s+pub extern "C" fn (\w+)', source))
 
 
 def fields_in_header(text):
@@ -164,7 +164,7 @@ def fields_in_header(text):
 def header():
     """The header in C and in C++, with the machine's own headers and with ours; it declares what the crate exports, and so does the Rust crate."""
     kit = os.path.dirname(os.path.dirname(os.path.realpath(run("sh", "-c", "command -v rt", text=True).stdout.strip())))
-    clang = os.path.join(kit, "on", platform.machine(), "toolchain", "bin", "clang")
+    clang = os.path.join(kit, "toolchain", "bin", "clang")
     strict = ("-Wall", "-Wextra", "-Wpedantic", "-Werror", "-fsyntax-only", "-I" + os.path.dirname(HEADER))
     examples_in_c = [os.path.join(EXAMPLES, "c", name) for name in ("acknowledge.c", "write_file.c")]
     tests_in_c = [os.path.join(ROOT, "tests", "c", name) for name in ("calls.c", "stack.c")]

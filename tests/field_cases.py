@@ -4,7 +4,7 @@
     tests/field_cases.py           compare crates/test_fields/stdin and stdout with what is made here
     tests/field_cases.py --write   write them
 
-The program is run on them, and held to the answers, by `rt check` and `rt ci`.
+The program is run on them, and held to the answers, by `rt ci`.
 """
 import os
 import random

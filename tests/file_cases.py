@@ -7,7 +7,7 @@
 The cases of PFML stay as they are stored. After them come the worked cases of the amended withholding file, edition 2024, by the numbers of the list of its
 rules, which states the answers. Cases 2, 12 and 17 to 20 are of another edition. In case 25 a list of one entry is full, which no program has:
 bindings/rust/tests/exports.rs has that.
-The programs are run on what is stored, and held to the answers, by `rt check` and `rt ci`. It needs cargo, which builds the reference.
+The programs are run on what is stored, and held to the answers, by `rt ci`. It needs cargo, which builds the reference.
 """
 import os
 import sys

@@ -2,7 +2,7 @@
 """The programs as they are installed: the examples of each format through the command `wage-ack`, called by every way and on every kind of input; what it
 turns away; and what comes of inputs and outputs that fail: never a false frame.
 
-It needs the programs: `rt check acknowledge acknowledge_wham_2024` builds them.
+It needs the programs: `rt ci` builds them, and `rt run` in their folders, crates/acknowledge and crates/acknowledge_wham_2024.
 """
 import os
 import shlex
@@ -85,7 +85,7 @@ def wage_ack(*arguments, **how):
 
 def program(form):
     """The command that runs a format's own program."""
-    return [os.path.join(ROOT, "tools", "run-program"), os.path.join(ROOT, "target", "bin", form.program)]
+    return [os.path.join(ROOT, "tools", "run-program"), os.path.join(ROOT, "crates", form.program, "out", form.program)]
 
 
 class Example(NamedTuple):
@@ -222,20 +222,24 @@ def building():
     can and notes what it is asked for, and programs that tell how much they read."""
     for form in FORMATS:
         with tempfile.TemporaryDirectory() as folder:
-            copy, asked, source = shutil.copy(WAGE_ACK, folder), os.path.join(folder, "asked"), os.path.join(folder, "crates", "source")
+            copy, asked = shutil.copy(WAGE_ACK, folder), os.path.join(folder, "asked")
+            source, kept = (os.path.join(folder, "crates", form.program, *path) for path in (("src", "source"), ("out", "kept")))
             write_command(source)
             write_command(os.path.join(folder, "crates.txt"))
             write_command(os.path.join(folder, "tools", "run-program"), "echo 00 ${1##*/} $(wc -c)")
-            write_command(os.path.join(folder, "kit", "rt"), "echo $* >> %s" % asked, "cat", "mkdir -p target/bin", ": > target/bin/$2", "chmod +x target/bin/$2")
+            write_command(os.path.join(folder, "kit", "rt"), "name=${PWD##*/}", "echo $* of $name >> %s" % asked, "cat", "mkdir -p out", ": > out/$name",
+                          "chmod +x out/$name")
             environment = dict(os.environ, PATH=os.path.join(folder, "kit") + os.pathsep + os.environ["PATH"])
 
             def run():
                 return subprocess.run([copy, "--format", form.name, QUARTER, "-"], input=b"A", capture_output=True, env=environment)
 
-            built = b"check %s\n" % form.program.encode()
-            for what, wanted in (("at first", built), ("again", built), ("with a source that is newer", 2 * built)):
-                if wanted != built:
-                    os.utime(source, (2e9, 2e9))
+            built = b"run of %s\n" % form.program.encode()
+            for what, newer, wanted in (("at first", None, built), ("again", None, built), ("with what rt keeps that is newer", kept, built),
+                                        ("with a source that is newer", source, 2 * built)):
+                if newer:
+                    write_command(newer)
+                    os.utime(newer, (2e9, 2e9))
                 answered("%s %s" % (form.name, what), run(), b"00 %s 8\n" % form.program.encode())
                 check("%s, built %s: %r" % (form.name, what, read(asked)), read(asked) == wanted)
             write_command(os.path.join(folder, "kit", "rt"), "exit 1")

@@ -7,7 +7,8 @@
 
 Each format of file is tried: the wage file (PFML), and the amended withholding file of edition 2024 (wham-2024). Files go through the program `test_files`
 in reads of many sizes, some of them through the program of their format alone, and scripts of calls through the C program tests/c/calls.c over the
-exports. It needs cargo, and the programs: `rt check acknowledge acknowledge_wham_2024 test_files` builds them; library and C program are built here.
+exports. It needs cargo, and the programs acknowledge, acknowledge_wham_2024 and test_files: `rt ci` builds them, and `rt run` in the folder of each; library
+and C program are built here.
 """
 import os
 import random
@@ -51,7 +52,7 @@ failed = 0
 
 
 def program(name):
-    return [RUN, os.path.join(ROOT, "target", "bin", name)]
+    return [RUN, os.path.join(ROOT, "crates", name, "out", name)]
 
 
 def named(form, *words):

@@ -19,16 +19,17 @@ def functions(lines):
     for line in lines:
         begins = re.match(r"[0-9a-f]+ <(.+)>:$", line)
         if begins:
-            name, probes = begins.group(1), False
+            name, marked = begins.group(1), False
             found[name] = {"own": 8, "calls": set()}
             continue
         if name is None:
             continue
-        # A large frame is taken page by page down to a mark in r11; the mark counts, and not the pages.
+        # A large frame is taken piece by piece, in a loop, down to a mark in r11; the mark counts, and not the piece, which is taken right after it.
         mark, taken = (re.search(r"\tsub\s+\$0x([0-9a-f]+),%%%s" % register, line) for register in ("r11", "rsp"))
-        probes = probes or bool(mark)
-        if mark or taken and not (probes and taken.group(1) == "1000"):
+        if mark or taken and not marked:
             found[name]["own"] += int((mark or taken).group(1), 16)
+        if mark or taken:
+            marked = bool(mark)
         if re.search(r"\tpush\b", line):
             found[name]["own"] += 8
         if re.search(r"\tcall\s+\*", line) or re.search(r"\tsub\s+%\w+,%rsp", line):

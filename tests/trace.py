@@ -311,7 +311,7 @@ def links(page):
 
 def pages():
     found = [os.path.relpath(p, ROOT) for p in glob.glob(os.path.join(ROOT, "**", "*.md"), recursive=True)]
-    return sorted(p for p in found if "target" not in p.split(os.sep))
+    return sorted(p for p in found if not {"target", "out"} & set(p.split(os.sep)))
 
 
 def against_papers(folder):

@@ -1,10 +1,10 @@
-//! Links libwage.a, which `rt staticlib wage` writes. It is for x86-64 Linux.
+//! Links libwage.a, which `rt lib`, in crates/wage, writes. It is for x86-64 Linux.
 
 use std::path::Path;
 
 fn main() {
     let root = Path::new(env!("CARGO_MANIFEST_DIR")).join("../..");
-    let folder = root.join("target/staticlib");
+    let folder = root.join("crates/wage/out");
     println!("cargo:rustc-link-search=native={}", folder.display());
     println!("cargo:rustc-link-lib=static=wage");
     println!(

@@ -1,5 +1,5 @@
 //! Pairs of inputs that differ in ignored columns only, with permitted characters in both: they get
-//! the same answer (6, "ignored-is-ignored").
+//! the same answer (6, "ignored_is_ignored").
 
 use super::draft::IGNORED;
 use super::layout::{fields_of, Class, LENGTH};
