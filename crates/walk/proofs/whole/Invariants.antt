@@ -10,7 +10,7 @@ use Rattle.walk.proofs.whole.Given as goal
 abbrev pub invariant-loop-at : goal.invariant-loop-at
 invariant-loop-at l =
     (l.at ≤ length l.bytes)
-    × (calls all 0 (drop l.at l.bytes) (walk_of l.st) (tables l.ids l.list) ≡ whole_file l.held l.bytes (tables l.initial.ids l.initial.list))
+    × (calls all 0 (drop l.at l.bytes) (walk_of l.st) (tables l.ids l.list) ≡ whole_file l.fn.held l.bytes (tables l.fn.ids l.fn.list))
 
 abbrev pub decreases-loop-at : goal.decreases-loop-at
 decreases-loop-at l = length l.bytes - l.at
