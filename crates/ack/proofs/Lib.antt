@@ -1,3 +1,0 @@
-pub mod Called
-pub mod TurnLent
-pub mod TurnValues
