@@ -9,7 +9,7 @@ use Rattle.pfml_fields.specs.Fields.{rows_of, fields, first_field}
 use Rattle.pfml_fields.specs.Fit.{is_number, number_width}
 use Rattle.pfml_fields.specs.Rows.{all_fields_lem, in_list, fields_counted, field_in_all, rows_in_order, none_behind}
 use Rattle.edits.specs.RowTests.{tiles}
-use Rattle.pfml_fields.specs.Tiling.{rows_tile}
+use Rattle.pfml_fields.proofs.Tiling.{rows_tile}
 use Rattle.edits.specs.Tests.{Readable}
 use Rattle.pfml.specs.Edits.{rows_for}
 use Rattle.pfml.specs.Kinds.{place_in_order, is_known}

@@ -1,6 +1,5 @@
 pub mod Fields
 pub mod Rows
-pub mod Tiling
 pub mod Fit
 pub mod Map
 pub mod MapLaws

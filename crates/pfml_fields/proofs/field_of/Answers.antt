@@ -1,7 +1,8 @@
 -- Outside the records and their columns there is no field, and within them the map names it.
 use mathlib.Core.Path.{sym}
 use native.Mathlib.Omega.{arith}
-use Rattle.pfml_fields.specs.MapLaws.{no_record, before_first, behind_last, field_in_map}
+use Rattle.pfml_fields.specs.MapLaws.{no_record}
+use Rattle.pfml_fields.proofs.FieldOfColumn.{before_first, behind_last, field_in_map}
 use Rattle.pfml_fields.proofs.field_of.Goals as goal
 
 pub returns-then-kind-ge5 : goal.returns-then-kind-ge5
