@@ -5,6 +5,6 @@
 use edits::format::Format;
 use program::Telling;
 
-fn main() {
-    program::run(Format::Pfml, Telling::One);
+fn main(rt: HostRuntime) {
+    program::run(rt, Format::Pfml, Telling::One);
 }

@@ -5,6 +5,6 @@
 use edits::format::Format;
 use program::Telling;
 
-fn main() {
-    program::run(Format::Wham2024, Telling::One);
+fn main(rt: HostRuntime) {
+    program::run(rt, Format::Wham2024, Telling::One);
 }

@@ -10,6 +10,7 @@ use edits::format;
 use edits::format::Format;
 use frames::Framed;
 use state::State;
+use std::io::Read;
 use tables::{Employer, list};
 
 // What stands on standard input, and what is told of it.
@@ -67,18 +68,18 @@ fn unread() -> Held
 // Reads after the bytes that are held. Without room a read would bring nothing and look like the
 // end of the input, so that counts as failed; a turn leaves less than the longest line over
 // (`left_short`), so it does not happen.
-fn read_one(buf: &mut [u8], have: usize) -> Held
+fn read_one(rt: HostRuntime, buf: &mut [u8], have: usize) -> Held
     ensures { result.bytes ≤ length buf.new }
 {
     if buf.len() <= have {
         return unread();
     }
-    let got = libc::read(libc::STDIN_FILENO, &mut buf[have..]);
-    if got < 0 {
+    let mut input = rt.stdin();
+    let Ok(got) = input.read(&mut buf[have..]) else {
         return unread();
-    }
+    };
     Held {
-        bytes: have + io::count(got, &buf[have..]),
+        bytes: have + got,
         left: 0,
         ended: got == 0,
         failed: false,
@@ -86,18 +87,21 @@ fn read_one(buf: &mut [u8], have: usize) -> Held
 }
 
 // Reads up to `want` bytes after those held, as far as there is room, and tells how many are held
-// then.
-fn read_piece(buf: &mut [u8], have: usize, want: u64) -> usize
+// then: none more, where a read failed.
+fn read_piece(rt: HostRuntime, buf: &mut [u8], have: usize, want: u64) -> usize
     requires { have ≤ length buf.old }
     ensures { (have ≤ result) × (result ≤ have + want) × (result ≤ length buf.new) }
 {
     let room = buf.len() - have;
     let end = have + number::least(want, room as u64) as usize;
-    have + io::read_full(libc::STDIN_FILENO, &mut buf[have..end])
+    match streams::read_full(rt, &mut buf[have..end]) {
+        Ok(got) => have + got,
+        Err(_) => have,
+    }
 }
 
 // Reads the next bytes of the case; after the last it has ended.
-fn read_case(buf: &mut [u8], at: Between) -> Held
+fn read_case(rt: HostRuntime, buf: &mut [u8], at: Between) -> Held
     ensures { result.bytes ≤ length buf.new }
 {
     let have = number::least(at.have as u64, buf.len() as u64) as usize;
@@ -110,7 +114,7 @@ fn read_case(buf: &mut [u8], at: Between) -> Held
             failed: false,
         };
     }
-    let end = read_piece(buf, have, number::least(at.piece, left));
+    let end = read_piece(rt, buf, have, number::least(at.piece, left));
     if end == have {
         return unread();
     }
@@ -122,18 +126,19 @@ fn read_case(buf: &mut [u8], at: Between) -> Held
     }
 }
 
-fn read_more(telling: Telling, buf: &mut [u8], at: Between) -> Held
+fn read_more(rt: HostRuntime, telling: Telling, buf: &mut [u8], at: Between) -> Held
     ensures { result.bytes ≤ length buf.new }
 {
     match telling {
-        Telling::One => read_one(buf, at.have),
-        Telling::Cases => read_case(buf, at),
+        Telling::One => read_one(rt, buf, at.have),
+        Telling::Cases => read_case(rt, buf, at),
     }
 }
 
 // ---- telling
-fn message(text: &[u8]) {
-    io::write_all(libc::STDERR_FILENO, text);
+// What cannot be told on standard error is told nowhere.
+fn message(rt: HostRuntime, text: &[u8]) {
+    let _ = rt.stderr().write_all(text);
 }
 
 // The first n bytes, or all where there are no more.
@@ -145,26 +150,27 @@ fn front<'a>(s: &'a [u8], n: usize) -> &'a [u8] {
     s
 }
 
-fn write_frames(frames: &[u8]) {
-    if !io::write_all(libc::STDOUT_FILENO, frames) {
-        message(b"acknowledge: the answer could not be written\n");
+fn write_frames(rt: HostRuntime, frames: &[u8]) {
+    if rt.stdout().write_all(frames).is_err() {
+        message(rt, b"acknowledge: the answer could not be written\n");
     }
 }
 
 // Of a finished walk the frames are always written (`program_means`); any other answer is told, and
 // no frame comes.
-fn tell_one(framed: Framed, out: &[u8]) {
+fn tell_one(rt: HostRuntime, framed: Framed, out: &[u8]) {
     match framed {
-        Framed::Written(n) => write_frames(front(out, n)),
-        _ => message(b"acknowledge: no frames for the state at the end\n"),
+        Framed::Written(n) => write_frames(rt, front(out, n)),
+        _ => message(rt, b"acknowledge: no frames for the state at the end\n"),
     }
 }
 
-fn tell_case(framed: Framed, out: &[u8]) {
+// Of the many inputs a failed write is not told.
+fn tell_case(rt: HostRuntime, framed: Framed, out: &[u8]) {
     if let Framed::Written(n) = framed {
-        io::write_all(libc::STDOUT_FILENO, front(out, n));
+        let _ = rt.stdout().write_all(front(out, n));
     }
-    io::write_all(libc::STDOUT_FILENO, b".\n");
+    let _ = rt.stdout().write_all(b".\n");
 }
 
 // ---- from turn to turn
@@ -215,13 +221,13 @@ fn done() -> Between
 }
 
 // The beginning of the next case, where there is one.
-fn next_case(turns: u64) -> Between
+fn next_case(rt: HostRuntime, turns: u64) -> Between
     ensures { result.turns ≤ turns }
 {
     let mut head = [0u8; 17];
-    if io::read_full(libc::STDIN_FILENO, &mut head) < 17 {
+    let Ok(17) = streams::read_full(rt, &mut head) else {
         return done();
-    }
+    };
     before(
         turns,
         number::value_in(&head, 1, 8),
@@ -231,20 +237,20 @@ fn next_case(turns: u64) -> Between
 }
 
 // The one input is of this format; a case names its own.
-fn start(format: Format, telling: Telling) -> Between {
+fn start(rt: HostRuntime, format: Format, telling: Telling) -> Between {
     match telling {
         Telling::One => before(u64::MAX, 0, 0, format),
-        Telling::Cases => next_case(u64::MAX),
+        Telling::Cases => next_case(rt, u64::MAX),
     }
 }
 
 // A read that failed ends the program; of the one input this is told.
-fn stopped(telling: Telling) -> Between
+fn stopped(rt: HostRuntime, telling: Telling) -> Between
     ensures { result.turns ≤ 0 }
 {
     match telling {
         Telling::One => {
-            message(b"acknowledge: standard input could not be read\n");
+            message(rt, b"acknowledge: standard input could not be read\n");
             done()
         }
         Telling::Cases => done(),
@@ -260,17 +266,17 @@ fn is_over(telling: Telling, ended: bool, progress: Progress) -> bool {
 }
 
 // Tells the answer; after a case comes the next one.
-fn told(telling: Telling, framed: Framed, out: &[u8], turns: u64) -> Between
+fn told(rt: HostRuntime, telling: Telling, framed: Framed, out: &[u8], turns: u64) -> Between
     ensures { result.turns ≤ turns }
 {
     match telling {
         Telling::One => {
-            tell_one(framed, out);
+            tell_one(rt, framed, out);
             done()
         }
         Telling::Cases => {
-            tell_case(framed, out);
-            next_case(turns)
+            tell_case(rt, framed, out);
+            next_case(rt, turns)
         }
     }
 }
@@ -278,6 +284,7 @@ fn told(telling: Telling, framed: Framed, out: &[u8], turns: u64) -> Between
 // What comes after a turn: the end, where a read failed; the answer, where the input is over; or
 // the bytes kept for another turn.
 fn after(
+    rt: HostRuntime,
     telling: Telling,
     last: Between,
     held: Held,
@@ -289,11 +296,11 @@ fn after(
     ensures { result.turns ≤ last.turns - 1 }
 {
     if held.failed {
-        return stopped(telling);
+        return stopped(rt, telling);
     }
     let progress = turned.progress;
     if is_over(telling, held.ended, progress) {
-        return told(telling, framed, out, one_less(last.turns));
+        return told(rt, telling, framed, out, one_less(last.turns));
     }
     let format = last.format;
     Between {
@@ -308,6 +315,7 @@ fn after(
 
 // Reads, turns and frames until all is told. An input that is not finished has no frames.
 fn all_turns(
+    rt: HostRuntime,
     format: Format,
     telling: Telling,
     buf: &mut [u8],
@@ -315,9 +323,9 @@ fn all_turns(
     list: &mut [Employer],
     out: &mut [u8],
 ) {
-    let mut at = start(format, telling);
+    let mut at = start(rt, format, telling);
     while 0 < at.turns {
-        let held = read_more(telling, buf, at);
+        let held = read_more(rt, telling, buf, at);
         let turned = ack::turn(
             at.format,
             at.progress,
@@ -327,18 +335,18 @@ fn all_turns(
             list,
         );
         let framed = frames::frames(state_of(turned.progress), list, out);
-        at = after(telling, at, held, turned, framed, buf, out);
+        at = after(rt, telling, at, held, turned, framed, buf, out);
     }
 }
 
 // Acknowledges what standard input holds: the one input in this format, each case in its own. That it ends is all that can
 // be promised: no contract says what is read and written. The frames take at most 47 bytes for each
 // of 1,024 employers, and 35 more.
-pub fn run(format: Format, telling: Telling) {
+pub fn run(rt: HostRuntime, format: Format, telling: Telling) {
     let mut buf = [0u8; 524288];
     let mut ids = [0u32; 8192];
     let none = list::AT_REST;
     let mut list = [none; 1024];
     let mut out = [0u8; 48163];
-    all_turns(format, telling, &mut buf, &mut ids, &mut list, &mut out);
+    all_turns(rt, format, telling, &mut buf, &mut ids, &mut list, &mut out);
 }

@@ -12,42 +12,37 @@ use field::class;
 use lines::Cut;
 use number::Number;
 use reason::{Edit, Reason};
+use std::io;
 use text::address;
 
 // ---- answers as lines of three numbers
-fn print_answer(number: u64, column: u64, value: u64) {
-    io::print_decimal(1, number);
-    io::write_all(1, b" ");
-    io::print_decimal(1, column);
-    io::write_all(1, b" ");
-    io::print_decimal(1, value);
-    io::write_all(1, b"\n");
+fn print_answer(rt: HostRuntime, number: u64, column: u64, value: u64) -> io::Result<()> {
+    println!(rt; "{number} {column} {value}")
 }
 
-fn print_refusal(column: u16, reason: Reason) {
-    print_answer(reason::number_of(reason) as u64, column as u64, 0);
+fn print_refusal(rt: HostRuntime, column: u16, reason: Reason) -> io::Result<()> {
+    print_answer(rt, reason::number_of(reason) as u64, column as u64, 0)
 }
 
-fn print_edit(e: Edit) {
+fn print_edit(rt: HostRuntime, e: Edit) -> io::Result<()> {
     match e {
-        Edit::Passed => print_answer(0, 0, 0),
-        Edit::Broken(column, reason) => print_refusal(column, reason),
+        Edit::Passed => print_answer(rt, 0, 0, 0),
+        Edit::Broken(column, reason) => print_refusal(rt, column, reason),
     }
 }
 
-fn print_number(n: Number) {
+fn print_number(rt: HostRuntime, n: Number) -> io::Result<()> {
     match n {
-        Number::Value(v) => print_answer(0, 0, v),
-        Number::Refused(column, reason) => print_refusal(column, reason),
+        Number::Value(v) => print_answer(rt, 0, 0, v),
+        Number::Refused(column, reason) => print_refusal(rt, column, reason),
     }
 }
 
-fn print_flag(holds: bool) {
+fn print_flag(rt: HostRuntime, holds: bool) -> io::Result<()> {
     if holds {
-        print_answer(0, 0, 1);
-        return;
+        return print_answer(rt, 0, 0, 1);
     }
-    print_answer(0, 0, 0);
+    print_answer(rt, 0, 0, 0)
 }
 
 fn byte_for(c: u8) -> u8 {
@@ -71,27 +66,26 @@ fn with_ends(s: &[u8], out: &mut [u8]) {
 }
 
 // The first line of such a text, which is to have n characters.
-fn print_cut(s: &[u8], n: u16) {
+fn print_cut(rt: HostRuntime, s: &[u8], n: u16) -> io::Result<()> {
     let length = s.len();
     if 256 < length {
-        print_answer(99, 0, 0);
-        return;
+        return print_answer(rt, 99, 0, 0);
     }
     let mut bytes = [0u8; 256];
     with_ends(s, &mut bytes);
     let c = lines::cut_line(&bytes[..length], n);
     match c {
-        Cut::Taken(taken) => print_answer(0, 0, taken as u64),
-        Cut::Refused(column, reason) => print_refusal(column, reason),
+        Cut::Taken(taken) => print_answer(rt, 0, 0, taken as u64),
+        Cut::Refused(column, reason) => print_refusal(rt, column, reason),
     }
 }
 
 // A number written into 24 columns of points.
-fn print_written(first: u16, last: u16, v: u64) {
+fn print_written(rt: HostRuntime, first: u16, last: u16, v: u64) -> io::Result<()> {
     let mut line = [b'.'; 24];
     number::write_number(&mut line, first, last, v);
-    io::write_all(1, &line);
-    io::write_all(1, b"\n");
+    rt.write_all(&line)?;
+    rt.write_all(b"\n")
 }
 
 // ---- one case: its test, its numbers and its text
@@ -118,44 +112,41 @@ fn quarter(s: &[u8], first: u16) -> Quarter
     }
 }
 
-fn run_case(s: &[u8]) {
+fn run_case(rt: HostRuntime, s: &[u8]) -> io::Result<()> {
     if s.len() < 8 {
-        print_answer(99, 0, 0);
-        return;
+        return print_answer(rt, 99, 0, 0);
     }
     let test = read_small(s, 1, 2);
     let a = read_small(s, 3, 5);
     let b = read_small(s, 6, 8);
     let text = &s[8..];
     if test < 19 {
-        print_edit(class::class_edit(class::class_of(test), text, a, b));
-        return;
+        return print_edit(rt, class::class_edit(class::class_of(test), text, a, b));
     }
     if 60 <= test {
-        print_edit(class::class_edit(class::class_of(test - 60 + 19), text, a, b));
-        return;
+        return print_edit(
+            rt,
+            class::class_edit(class::class_of(test - 60 + 19), text, a, b),
+        );
     }
     if test < 30 {
-        print_number(reading(test, text, a, b));
-        return;
+        return print_number(rt, reading(test, text, a, b));
     }
     if test < 40 {
-        print_edit(address_edit(test, text, a));
-        return;
+        return print_edit(rt, address_edit(test, text, a));
     }
     if test == 44 {
-        print_answer(
+        return print_answer(
+            rt,
             0,
             0,
             timing_number(calendar::timing_of(quarter(text, 1), quarter(text, 7))),
         );
-        return;
     }
     if test < 50 {
-        print_flag(calendar_test(test, text));
-        return;
+        return print_flag(rt, calendar_test(test, text));
     }
-    more(test, text, a, b);
+    more(rt, test, text, a, b)
 }
 
 fn reading(test: u16, s: &[u8], a: u16, b: u16) -> Number {
@@ -199,33 +190,37 @@ fn timing_number(timing: Timing) -> u64 {
     }
 }
 
-fn more(test: u16, s: &[u8], a: u16, b: u16) {
+fn more(rt: HostRuntime, test: u16, s: &[u8], a: u16, b: u16) -> io::Result<()> {
     match test {
-        50 => print_cut(s, a),
-        51 => print_written(a, b, read(s, 1, 19)),
-        52 => print_edit(chars::columns::every_column(chars::columns::Allowed::Permitted, s, a, b)),
-        _ => print_answer(99, 0, 0),
+        50 => print_cut(rt, s, a),
+        51 => print_written(rt, a, b, read(s, 1, 19)),
+        52 => print_edit(
+            rt,
+            chars::columns::every_column(chars::columns::Allowed::Permitted, s, a, b),
+        ),
+        _ => print_answer(rt, 99, 0, 0),
     }
 }
 
 // ---- all cases
 // One case after the other; what stands after the last line end is no case.
-fn cases(input: &[u8]) {
+fn cases(rt: HostRuntime, input: &[u8]) -> io::Result<()> {
     let mut at = 0;
     while at < input.len() {
         let rest = &input[at..];
         let length = lines::line_length(rest, rest.len());
         if rest.len() <= length {
-            return;
+            return Ok(());
         }
         let end = at + length;
-        run_case(&input[at..end]);
+        run_case(rt, &input[at..end])?;
         at = end + 1;
     }
+    Ok(())
 }
 
-fn main() {
-    let mut buffer = io::large_buffer();
-    let n = io::read_full(0, &mut buffer);
-    cases(&buffer[..n]);
+fn main(rt: HostRuntime) -> io::Result<()> {
+    let mut buffer = [0u8; 65536];
+    let n = streams::read_full(rt, &mut buffer)?;
+    cases(rt, &buffer[..n])
 }

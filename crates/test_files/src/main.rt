@@ -6,6 +6,6 @@
 use edits::format::Format;
 use program::Telling;
 
-fn main() {
-    program::run(Format::Unknown, Telling::Cases);
+fn main(rt: HostRuntime) {
+    program::run(rt, Format::Unknown, Telling::Cases);
 }

@@ -12,6 +12,7 @@ use calendar::Quarter;
 use edits::format::Format;
 use edits::{Context, Open, Opening, Phase, Seen, Totals};
 use shape::Verdict;
+use std::io;
 
 fn phase(n: u64) -> Phase {
     match n {
@@ -80,26 +81,24 @@ fn seen(s: &[u8]) -> Seen {
     }
 }
 
-fn answer(number: u64, place: u64) {
-    io::print_decimal(1, number);
-    io::write_all(1, b" ");
-    io::print_decimal(1, place);
-    io::write_all(1, b"\n");
+fn answer(rt: HostRuntime, number: u64, place: u64) -> io::Result<()> {
+    println!(rt; "{number} {place}")
 }
 
-fn tell(verdict: Verdict) {
+fn tell(rt: HostRuntime, verdict: Verdict) -> io::Result<()> {
     match verdict {
-        Verdict::Refused(column, reason) => answer(reason::number_of(reason) as u64, column as u64),
-        Verdict::Passed(taken, _) => answer(0, taken as u64),
+        Verdict::Refused(column, reason) => {
+            answer(rt, reason::number_of(reason) as u64, column as u64)
+        }
+        Verdict::Passed(taken, _) => answer(rt, 0, taken as u64),
     }
 }
 
-fn case(s: &[u8]) {
+fn case(rt: HostRuntime, s: &[u8]) -> io::Result<()> {
     if s.len() < 78 {
-        answer(99, 0);
-        return;
+        return answer(rt, 99, 0);
     }
-    tell(record::judge(context(s), seen(s), &s[78..]));
+    tell(rt, record::judge(context(s), seen(s), &s[78..]))
 }
 
 // How long a case is.
@@ -116,22 +115,23 @@ fn case_length(s: &[u8]) -> usize
     i
 }
 
-fn cases(input: &[u8]) {
+fn cases(rt: HostRuntime, input: &[u8]) -> io::Result<()> {
     let mut at = 0;
     while at < input.len() {
         let rest = &input[at..];
         let length = case_length(rest);
         if rest.len() <= length {
-            return;
+            return Ok(());
         }
         let end = at + length;
-        case(&input[at..end]);
+        case(rt, &input[at..end])?;
         at = end + 1;
     }
+    Ok(())
 }
 
-fn main() {
-    let mut buffer = io::large_buffer();
-    let n = io::read_full(0, &mut buffer);
-    cases(&buffer[..n]);
+fn main(rt: HostRuntime) -> io::Result<()> {
+    let mut buffer = [0u8; 65536];
+    let n = streams::read_full(rt, &mut buffer)?;
+    cases(rt, &buffer[..n])
 }

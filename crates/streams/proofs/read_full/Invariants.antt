@@ -1,0 +1,9 @@
+-- What stands at the front of the buffer fits in it, and each turn adds to it.
+use Rattle.std.proofs.Common.{◌-◌, ◌≤◌, length}
+use Rattle.streams.proofs.read_full.Given as goal
+
+abbrev pub invariant-loop-done : goal.invariant-loop-done
+invariant-loop-done l = l.done ≤ length l.buf
+
+abbrev pub decreases-loop-done : goal.decreases-loop-done
+decreases-loop-done l = length l.buf - l.done

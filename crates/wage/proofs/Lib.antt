@@ -1,3 +1,0 @@
-pub mod Called
-mod SlicesLent
-mod StateSteps
