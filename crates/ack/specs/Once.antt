@@ -5,7 +5,6 @@ use Rattle.tables.specs.Room.{Tables}
 use Rattle.state.specs.Once.{same_walk}
 use Rattle.state.specs.Walks.{Walk, walk_of}
 use Rattle.ack.specs.Answers.{progress_of, turned_by}
-use Rattle.ack.specs.Turns as turns
 use Rattle.ack.specs.Turns.{Turn, waiting, walking, finished}
 use Rattle.ack.specs.declared.Progress.{Progress}
 use Rattle.ack.specs.declared.Progress.TheVariants.{Waiting, Walking, Finished}

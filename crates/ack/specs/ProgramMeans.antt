@@ -12,7 +12,7 @@ use Rattle.edits.specs.declared.format.Format.{Format}
 use Rattle.shape.specs.declared.Said.{Said}
 use Rattle.tables.specs.Pad.{pad}
 use Rattle.tables.specs.PadLaws.{length_pad}
-use Rattle.tables.specs.Room.{Tables, tables, room_of}
+use Rattle.tables.specs.Room.{Tables, room_of}
 use Rattle.tables.specs.Tables.{no_employer}
 use Rattle.tables.specs.declared.Employer.{Employer}
 use Rattle.record.specs.Laws.{lawful_of}
@@ -22,7 +22,6 @@ use Rattle.meaning.specs.Meaning.{Outcome, accepted, refused, records_onto, mean
 use Rattle.meaning.specs.Theorems.{accepted_iff}
 use Rattle.state.specs.Unfit.{is_left, unfit}
 use Rattle.state.specs.UnfitLaws.{left_opening, refused_fit, sound_fit}
-use Rattle.state.specs.Walks as walks
 use Rattle.state.specs.Walks.{refused_walk}
 use Rattle.step.specs.Moves.{opening_notice}
 use Rattle.step.specs.Steps.{Out}

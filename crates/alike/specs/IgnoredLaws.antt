@@ -8,7 +8,7 @@ use Rattle.laws.specs.Choice.{if◌then◌else◌}
 use Rattle.laws.specs.ChoiceLaws.{both_hold}
 use Rattle.laws.specs.Finding.{fine, broken}
 use Rattle.lines.specs.Cutting.{beyond, length_test, end_test}
-use Rattle.lines.specs.HiddenPlaces.{EqualBut, MayHold, Hides}
+use Rattle.lines.specs.HiddenPlaces.{MayHold, Hides}
 use Rattle.lines.specs.HiddenPlaceLaws.{equal_changed}
 use Rattle.lines.specs.Lines.{Line, lines_of}
 use Rattle.chars.specs.Characters.{is_permitted, capitals}
@@ -17,7 +17,6 @@ use Rattle.calendar.specs.declared.Quarter.{Quarter}
 use Rattle.edits.specs.Edit.{Edit, at_first}
 use Rattle.edits.specs.Formats.{quarter_held, may_open, opening_with}
 use Rattle.edits.specs.declared.Seen.{Seen}
-use Rattle.edits.specs.declared.format.Format.{Format}
 use Rattle.edits.specs.declared.format.Format.TheVariants.{Wham2024}
 use Rattle.shape.specs.Blot.{blot_length, blot_at, blot_told, permitted_no_end}
 use Rattle.shape.specs.BlotBy.{blot_by, by_hides, columns_told}
@@ -35,7 +34,7 @@ use Rattle.wham.specs.declared.kind.Kind.{Kind}
 use Rattle.wham_fields.specs.declared.Edition.TheVariants.{Of2024}
 use Rattle.record.specs.Judge.{record_on}
 use Rattle.tables.specs.Room.{Room, Tables, room_of}
-use Rattle.meaning.specs.Meaning.{Outcome, LineEdit, on_line, context_at, on_earlier_e, under_this_e, edits_at, edits_from, first_of_file, outcome_by, records_onto, meaning}
+use Rattle.meaning.specs.Meaning.{LineEdit, on_line, context_at, on_earlier_e, under_this_e, edits_at, edits_from, first_of_file, outcome_by, records_onto, meaning}
 use Rattle.walk.specs.Calls.{Lending, walked, whole_file, leaves}
 use Rattle.walk.specs.WalkMeans.{walk_means}
 use Rattle.ack.specs.Acknowledgement.{program_room, file_frames, acknowledgement}

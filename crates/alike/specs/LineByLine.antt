@@ -16,7 +16,7 @@ use Rattle.shape.specs.Fits.{Fits}
 use Rattle.shape.specs.Hidden.{of_employee, of_employer, of_note, is_employee, is_note, employee_on, blot}
 use Rattle.shape.specs.Judged.{employee_said, said_employee, said_employer, said_note, note_said}
 use Rattle.shape.specs.Lawful.{Lawful}
-use Rattle.shape.specs.Shape.{Shape, passed, verdict_by}
+use Rattle.shape.specs.Shape.{Shape, verdict_by}
 use Rattle.shape.specs.declared.EmployerOn.{EmployerOn}
 use Rattle.shape.specs.declared.Note.{Note}
 use Rattle.shape.specs.declared.Said.{Said}
@@ -27,7 +27,7 @@ use Rattle.record.specs.Laws.{judge_says, judged_length, alike_judged, note_judg
 use Rattle.tables.specs.Laws.{among_none}
 use Rattle.tables.specs.Room.{Room}
 use Rattle.tables.specs.Tables.{is_among}
-use Rattle.meaning.specs.Before.{phase_in, ids_under, open_in}
+use Rattle.meaning.specs.Before.{phase_in, ids_under}
 use Rattle.meaning.specs.FileLaws.{onto_nil, onto_cons, meaning_end, meaning_refuses, meaning_goes_on}
 use Rattle.meaning.specs.Meaning.{context_at, on_earlier_e, under_this_e, edits_at, judge_at, found_on, records_onto, Outcome, refused, outcome_by, meaning_from}
 use Rattle.step.specs.Steps.{Out}

@@ -1,5 +1,5 @@
 -- Laws: demand 3 of the amended withholding file follows from that of every format: no S record of it says an identity number.
-use Rattle.std.specs.Prelude.{ℕ, Bool, ◌||◌, ◌≡◌, eqb, length}
+use Rattle.std.specs.Prelude.{ℕ, Bool, ◌||◌, ◌≡◌, length}
 use Rattle.std.proofs.Math.Bool.{true, false}
 use mathlib.Core.List.{List, [], ◌∷◌, ◌++◌, map}
 use Rattle.std.proofs.Math.Path.{refl, ap, ap₂}

@@ -26,7 +26,6 @@ use Rattle.edits.specs.declared.Seen.{Seen}
 use Rattle.edits.specs.declared.Rule.{Rule}
 use Rattle.edits.specs.declared.Rule.TheVariants.{Nothing, YearInTime, QuarterInTime, YearOfA, PeriodOfA, FeinNew, FeinOfE, DateInQuarter, IdentityNew, CountOfS, WagesOfS, FileCountOfS, FileCountOfE, FileWagesOfS, FinalIfCurrent, More}
 use Rattle.edits.specs.declared.FurtherRule.TheVariants.{YearHeld, QuarterOfE, ListRoom, AccountOfE, QuarterEnd, SecondOfS}
-use Rattle.field.specs.declared.class.Further.{Further}
 use Rattle.field.specs.declared.class.Further.TheVariants.{SocialSecurity, MaineCode, Licence, Difference}
 
 ruleset labels = (none_labelled, more_labelled, refl, unless_labelled, blanks_labelled, digits_labelled, names_labelled, choice_labelled, fine_labelled, period_labelled, flag_labelled, entity_labelled, state_labelled, zip_labelled, extension_labelled)

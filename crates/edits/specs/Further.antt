@@ -4,7 +4,6 @@ use Rattle.laws.specs.Choice.{if◌then◌else◌}
 use Rattle.laws.specs.Finding.{Reading, value, refused}
 use Rattle.calendar.specs.Dates.{is_last_day}
 use Rattle.calendar.specs.Quarters.{is_after}
-use Rattle.calendar.specs.declared.Quarter.{Quarter}
 use Rattle.chars.specs.Columns.{every_column}
 use Rattle.chars.specs.declared.columns.Allowed.TheVariants.{Digits}
 use Rattle.number.specs.Letters.{letters_in}

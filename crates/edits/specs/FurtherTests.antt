@@ -2,7 +2,7 @@
 use Rattle.std.specs.Prelude.{ℕ, Bool, true, false, not, ◌||◌, List, ◌≡◌, refl, eqb}
 use Rattle.std.proofs.Common.{sym, ◌∙◌}
 use Rattle.laws.specs.Choice.{if◌then◌else◌}
-use Rattle.laws.specs.Finding.{Finding, fine, or_else}
+use Rattle.laws.specs.Finding.{Finding, or_else}
 use Rattle.chars.specs.Columns.{every_column, unless}
 use Rattle.chars.specs.ColumnLaws.{every_anything}
 use Rattle.chars.specs.declared.columns.Allowed.TheVariants.{Digits}

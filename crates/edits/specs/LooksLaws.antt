@@ -1,6 +1,6 @@
 -- Laws: the edits of fields in two lines that are the same in the columns that these edits look at, and in two contexts that are the same but for the sums.
 use Prim.Native.Nat.{ℕ, zero, suc, ◌+◌, ◌-◌, ◌<◌, ◌≤◌}
-use Rattle.std.specs.Prelude.{Bool, not, ◌&&◌, ◌||◌, List, [], ◌∷◌, ◌++◌, ◌≡◌, T, length, get_or}
+use Rattle.std.specs.Prelude.{Bool, ◌&&◌, List, [], ◌∷◌, ◌++◌, ◌≡◌, T, length, get_or}
 use Rattle.std.proofs.Math.Bool.{true, false}
 use Rattle.std.proofs.lemmas.Bool.{false≢true}
 use Rattle.std.proofs.Math.Path.{refl, ap}
@@ -9,19 +9,17 @@ use Rattle.std.proofs.Math.Dec.{eqb}
 use borrow.Author.Tests.{eqb-true, eqb-false}
 use Rattle.laws.specs.Choice.{if◌then◌else◌}
 use Rattle.laws.specs.ChoiceLaws.{both_hold}
-use Rattle.laws.specs.Finding.{Finding, fine, or_else, finding_in}
 use Rattle.laws.specs.Lists.{any_default}
 use Rattle.laws.specs.Table.{every, at}
 use Rattle.chars.specs.Agree.{Agree, every_alike}
-use Rattle.chars.specs.Columns.{width_of, every_column}
+use Rattle.chars.specs.Columns.{width_of}
 use Rattle.chars.specs.declared.columns.Allowed.TheVariants.{Blanks, Digits, OfNames}
 use Rattle.number.specs.LetterLaws.{letters_alike}
 use Rattle.number.specs.NumberLaws.{number_alike, value_alike}
 use Rattle.number.specs.Numbers.{value_in}
 use Rattle.rules.specs.RuleLaws.{period_alike, flag_alike}
 use Rattle.text.specs.TextLaws.{pattern_alike, blank_alike, indented_alike, region_alike, zip_alike, extension_alike}
-use Rattle.text.specs.Address.{state_test, zip_test, extension_test, region_in}
-use Rattle.codes.specs.declared.Region.{Region}
+use Rattle.text.specs.Address.{region_in}
 use Rattle.field.specs.Classes.{class_of}
 use Rattle.field.specs.ClassLaws.{class_again}
 use Rattle.field.specs.declared.class.Class.{Class}
@@ -37,7 +35,7 @@ use Rattle.edits.specs.FieldLaws.{rule_again}
 use Rattle.edits.specs.FieldRow.{row, no_row, class_in, first_in, last_in}
 use Rattle.edits.specs.Further.{further_own, further_edits, is_negative, digits_from}
 use Rattle.edits.specs.Looks.{holds_from, holds, holds_some, further_held, own_held, further_rule_held, rule_held, row_held, further_no_sum, reads_no_sum}
-use Rattle.edits.specs.Own.{own, is_final}
+use Rattle.edits.specs.Own.{own}
 use Rattle.edits.specs.RuleNumbers.{Around, rule_number, rule_of}
 use Rattle.edits.specs.WithContext.{rule_edits, with_context}
 use Rattle.edits.specs.declared.Context.{Context}

@@ -1,5 +1,5 @@
 -- Laws: what the first broken edit of a list finds has one of the list's numbers.
-use Rattle.std.specs.Prelude.{ℕ, Bool, true, ◌&&◌, List, [], ◌∷◌, ◌++◌, ◌⊎◌, ◌≡◌, refl}
+use Rattle.std.specs.Prelude.{ℕ, Bool, true, List, [], ◌∷◌, ◌++◌, ◌≡◌, refl}
 use Rattle.std.proofs.Common.{inl, inr, subst}
 use Rattle.laws.specs.ChoiceLaws.{both_hold}
 use Rattle.laws.specs.Finding.{broken}

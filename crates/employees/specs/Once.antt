@@ -1,8 +1,7 @@
 -- Laws: the paper's numbers lose nothing of what a run leaves: no second answer, and no second content of the id table, fits the promise of `behind`.
 use Rattle.std.specs.Prelude.{ℕ, List, [], ◌≡◌}
 use Rattle.std.proofs.Common.{ap}
-use Rattle.tables.specs.Room.{Tables, tables}
-use Rattle.tables.specs.declared.Employer.{Employer}
+use Rattle.tables.specs.Room.{tables}
 use Rattle.step.specs.Once.{same_answer}
 use Rattle.step.specs.Steps.{Out}
 use Rattle.step.specs.declared.Answer.{Answer}

@@ -1,6 +1,6 @@
 -- Laws: no edit is missing: the numbers of each record's edits are, in order, exactly those of the table in ListedNumbers, and their first columns
 -- never fall. (These are the edits' labels; that what an edit finds is told by its label is `text_labelled`.)
-use Rattle.std.specs.Prelude.{ℕ, true, List, [], ◌∷◌, ◌++◌, map, ◌≡◌, refl}
+use Rattle.std.specs.Prelude.{ℕ, true, List, [], ◌∷◌, ◌++◌, ◌≡◌, refl}
 use Rattle.std.proofs.lemmas.List.{map-append}
 use Rattle.std.proofs.Common.{ap, ◌∙◌}
 use Rattle.lines.specs.Lines.{Line}

@@ -1,5 +1,5 @@
 -- Laws: what holds where a record passes: of the context, of the size of what the record says, and of the clauses of 72 after it.
-use Rattle.std.specs.Prelude.{ℕ, ◌+◌, ◌≤◌, ◌<◌, Bool, true, false, not, ◌||◌, List, [], ◌∷◌, ◌⊎◌, ◌≡◌, refl, eqb, leb, ltb, length, get_or}
+use Rattle.std.specs.Prelude.{ℕ, ◌+◌, ◌≤◌, Bool, true, false, not, ◌||◌, List, [], ◌∷◌, ◌⊎◌, ◌≡◌, refl, eqb, leb, ltb, get_or}
 use Rattle.std.proofs.lemmas.Bool.{false≢true, eqb-false}
 use Rattle.std.proofs.Common.{inl, inr, sym, ◌∙◌, arith, eqb-true, leb-false, ltb-false, le-ltb}
 use Rattle.laws.specs.Choice.{if◌then◌else◌}

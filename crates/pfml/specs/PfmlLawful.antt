@@ -1,5 +1,5 @@
 -- Laws: what PFML owes the machine, `Lawful` of its shape.
-use Rattle.std.specs.Prelude.{ℕ, ◌≤◌, Bool, true, false, ◌&&◌, ◌||◌, List, ◌≡◌, refl, leb, ltb, eqb, take, get_or}
+use Rattle.std.specs.Prelude.{ℕ, ◌≤◌, Bool, true, false, ◌&&◌, ◌||◌, List, ◌≡◌, refl, leb, eqb, take, get_or}
 use Rattle.std.proofs.Common.{inl, sym, ap, ◌∙◌, arith, get_or-take, le-ltb}
 use Rattle.std.proofs.lemmas.Bool.{lt-leb}
 use Rattle.laws.specs.ChoiceLaws.{within}

@@ -7,7 +7,7 @@ use Rattle.shape.specs.Limits.{most_employees}
 use Rattle.shape.specs.Phases.{stands}
 use Rattle.pfml.specs.Kinds.{place_in_order}
 use Rattle.pfml.specs.declared.kind.Kind.{Kind}
-use Rattle.pfml.specs.declared.kind.Kind.TheVariants.{Transmitter, Employer, Employee, Total, Final, Unknown}
+use Rattle.pfml.specs.declared.kind.Kind.TheVariants.{Transmitter, Employer, Employee, Total, Final}
 
 -- The record is this one of A, E, S, T, F.
 abbrev pub is : Kind → Kind → Bool

@@ -1,17 +1,15 @@
 -- Laws: every field of the five records is as wide as its class asks.
-use Rattle.std.specs.Prelude.{ℕ, suc, ◌+◌, ◌-◌, ◌<◌, ◌≤◌, true, [], ◌≡◌, eqb, get_or, take, drop}
-use Rattle.std.proofs.Common.{◌∙◌, subst, arith, not-suc-le-zero, length-take, length-drop, get_or-take, get_or-drop, eqb-true}
+use Rattle.std.specs.Prelude.{ℕ, ◌+◌, ◌<◌, ◌≤◌, [], ◌≡◌, get_or, take, drop}
+use Rattle.std.proofs.Common.{◌∙◌, subst, arith, not-suc-le-zero, length-take, length-drop, get_or-take, get_or-drop}
 use Rattle.laws.specs.Lists.{any_default}
 use Rattle.field.specs.Classes.{class_of}
-use Rattle.field.specs.declared.class.Class.{Class}
-use Rattle.field.specs.declared.class.Class.TheVariants.{Ignored, RecordLetter, BlankSpace, Numeric, AccountNumber, Flag, ThirdQuarterFlag, Period, RequiredText, OptionalText, PersonName, EntityCode, StateCode, ZipCode, ZipExtension, TaxYear, EmployerFein, IdentityNumber, CeaseDate, More}
 use Rattle.edits.specs.FieldRow.{class_in, first_in, last_in}
 use Rattle.pfml_fields.specs.Fields.{fields}
 use Rattle.edits.specs.RowTestLaws.{wide_of}
 use Rattle.pfml_fields.specs.Fit.{class_widths}
 use Rattle.pfml_fields.specs.Rows.{all_fields_lem, part_of_A, part_of_E, part_of_S, part_of_T, part_of_F}
 use Rattle.edits.specs.FieldRow.{no_row}
-use Rattle.edits.specs.Tests.{Wide, Readable, AllWide}
+use Rattle.edits.specs.Tests.{AllWide}
 use Rattle.pfml.specs.Edits.{rows_for}
 use Rattle.pfml.specs.declared.kind.Kind.{Kind}
 use Rattle.pfml.specs.declared.kind.Kind.TheVariants.{Transmitter, Employer, Employee, Total, Final, Unknown}

@@ -1,5 +1,5 @@
 -- Laws: how many places the map has, that a column of no record has no field, and that no second answer has the same numbers.
-use Prim.Native.Nat.{ℕ, ◌-◌, ◌≤◌}
+use Prim.Native.Nat.{ℕ, ◌≤◌}
 use Rattle.std.specs.Prelude.{◌≡◌, length}
 use mathlib.Core.List.{[]}
 use Rattle.std.proofs.Math.Path.{refl}

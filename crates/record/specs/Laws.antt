@@ -1,13 +1,13 @@
 -- Laws: every format is lawful; and the verdict on a line, for every format: the laws of a lawful shape, for the format that the context holds.
 use Rattle.std.specs.Prelude.{ℕ, ◌≤◌, Bool, true, false, List, ◌≡◌, eqb, leb, length, take}
-use Rattle.std.proofs.Common.{sym, ap, ◌∙◌}
+use Rattle.std.proofs.Common.{ap, ◌∙◌}
 use Rattle.laws.specs.Finding.{broken}
 use Rattle.lines.specs.Lines.{Line, first_line, size_of}
 use Rattle.lines.specs.Lent.{Lent}
 use Rattle.chars.specs.Characters.{capitals}
 use Rattle.edits.specs.Counted.{without_sums}
 use Rattle.edits.specs.Edit.{first_broken}
-use Rattle.edits.specs.Labels.{AllLabelled, FirstIn}
+use Rattle.edits.specs.Labels.{AllLabelled}
 use Rattle.edits.specs.declared.Context.{Context}
 use Rattle.edits.specs.declared.Opening.{Opening}
 use Rattle.edits.specs.declared.Phase.{Phase}

@@ -1,6 +1,6 @@
 -- Laws: a line with its hidden columns blotted out is a line of the same record and shows all other columns, in every format;
 -- two lines with equal blots are alike.
-use Prim.Native.Nat.{ℕ, zero, suc, ◌+◌, ◌≤◌, ◌<◌, min}
+use Prim.Native.Nat.{ℕ, zero, suc, ◌+◌, ◌≤◌, ◌<◌}
 use Rattle.std.specs.Prelude.{Bool, ◌&&◌, ◌≡◌, eqb, length, get_or, take}
 use Rattle.std.proofs.Math.Bool.{true, false}
 use mathlib.Core.List.{List, [], ◌∷◌}

@@ -1,5 +1,5 @@
 -- Laws: lines with some columns blotted out, whatever columns they are: where they are told by the columns that are left, blotting hides them and no others.
-use Rattle.std.specs.Prelude.{ℕ, ◌+◌, ◌≤◌, Bool, true, false, List, ◌≡◌, refl, length, get_or}
+use Rattle.std.specs.Prelude.{ℕ, ◌+◌, ◌≤◌, Bool, true, false, ◌≡◌, refl, length, get_or}
 use Rattle.std.proofs.Common.{sym, ap, ◌∙◌, arith}
 use Rattle.lines.specs.HiddenPlaces.{Hides, Keeps}
 use Rattle.lines.specs.Lines.{Line}

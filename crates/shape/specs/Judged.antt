@@ -3,11 +3,11 @@ use Rattle.std.specs.Prelude.{ℕ, zero, suc, ◌+◌, Bool, true, false, ◌&&�
 use Rattle.std.proofs.lemmas.Bool.{false≢true}
 use Rattle.std.proofs.Common.{sym, ap, ap₂, ◌∙◌, arith, eqb-true, eq-eqb}
 use Rattle.laws.specs.ChoiceLaws.{both_hold}
-use Rattle.laws.specs.Finding.{fine, or_else, Reading, value, refused, finding_in}
+use Rattle.laws.specs.Finding.{or_else, Reading, value, refused, finding_in}
 use Rattle.lines.specs.Cutting.{cutting}
 use Rattle.lines.specs.Lines.{Line}
 use Rattle.lines.specs.CutOutcomes.{no_end, takes, taken_is_size}
-use Rattle.chars.specs.Characters.{is_permitted, capital_of, capitals}
+use Rattle.chars.specs.Characters.{capital_of, capitals}
 use Rattle.chars.specs.CharacterLaws.{capital_at, capital_permitted}
 use Rattle.edits.specs.Counted.{without_sums}
 use Rattle.edits.specs.Edit.{first_broken}

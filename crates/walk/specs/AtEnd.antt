@@ -1,6 +1,6 @@
 -- Laws: the records of an accepted file were all taken, and the last of them is F.
-use Rattle.std.specs.Prelude.{ℕ, ◌+◌, ◌≤◌, true, List, [], ◌∷◌, ◌≡◌, refl, length}
-use Rattle.std.proofs.Common.{sym, ap, subst, ◌∙◌, arith}
+use Rattle.std.specs.Prelude.{ℕ, ◌+◌, true, List, [], ◌∷◌, ◌≡◌, refl, length}
+use Rattle.std.proofs.Common.{sym, ap, subst, ◌∙◌}
 use Rattle.reason.specs.ReasonNumbers.{Notice, notice}
 use Rattle.laws.specs.Finding.{Finding}
 use Rattle.lines.specs.Lines.{Line}

@@ -1,5 +1,5 @@
 -- Laws: one call on a walk that nobody altered: it answers as the records before say, and leaves what the records with this one more leave.
-use Rattle.std.specs.Prelude.{ℕ, ◌+◌, ◌-◌, ◌≤◌, ◌<◌, Bool, true, false, List, [], ◌∷◌, ◌++◌, ◌⊎◌, ◌≡◌, refl, eqb, leb, length, take}
+use Rattle.std.specs.Prelude.{ℕ, ◌+◌, ◌≤◌, ◌<◌, Bool, true, false, List, [], ◌∷◌, ◌++◌, ◌⊎◌, ◌≡◌, refl, eqb, leb, length, take}
 use Rattle.std.proofs.lemmas.Bool.{false≢true}
 use Rattle.std.proofs.Common.{inl, inr, sym, ap, ◌∙◌, add-one, arith, eq-eqb, leb-false}
 use Rattle.laws.specs.Choice.{if◌then◌else◌}

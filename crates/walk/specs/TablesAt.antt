@@ -10,7 +10,6 @@ use Rattle.record.specs.Laws.{passed_size}
 use Rattle.shape.specs.declared.Said.{Said}
 use Rattle.tables.specs.Room.{Room, Tables, room_of}
 use Rattle.meaning.specs.Meaning.{context_at, on_earlier_e, under_this_e, judge_at}
-use Rattle.state.specs.Walks as walks
 use Rattle.step.specs.MoveLaws.{open_allowed}
 use Rattle.step.specs.Steps.{Out, open_step, line_step}
 use Rattle.walk.specs.At.{walk_at, tables_at}

@@ -1,5 +1,5 @@
 -- Laws: walk_means: for every file, quarter, table lengths and lending, the calls answer and leave what the file means.
-use Prim.Native.Nat.{ℕ, zero, suc, ◌+◌, ◌-◌, ◌≤◌}
+use Prim.Native.Nat.{ℕ, zero, suc, ◌+◌, ◌-◌}
 use Rattle.std.specs.Prelude.{Bool, true, false, ◌≡◌, refl, eqb, length, take}
 use mathlib.Core.List.{List, [], ◌∷◌}
 use Rattle.std.proofs.Common.{sym, subst, ◌∙◌, arith, ne_eqb}
@@ -31,7 +31,7 @@ use Rattle.tables.specs.Room.{Room, Tables, room_of, zeroed}
 use Rattle.tables.specs.Tables.{no_employer}
 use Rattle.meaning.specs.Before.{phase_in, ids_under, totals_in, entries_in}
 use Rattle.meaning.specs.FileLaws.{onto_nil, onto_cons, meaning_end, meaning_refuses, meaning_goes_on}
-use Rattle.meaning.specs.Meaning.{context_at, on_earlier_e, under_this_e, judge_at, found_on, records_onto, accepted, refused, outcome_by, meaning_from}
+use Rattle.meaning.specs.Meaning.{context_at, on_earlier_e, under_this_e, judge_at, found_on, records_onto, accepted, outcome_by, meaning_from}
 use Rattle.state.specs.Unfit.{is_left}
 use Rattle.state.specs.UnfitLaws.{left_number, left_opening, edit_not_opening, refused_fit}
 use Rattle.state.specs.Walks as walks

@@ -1,6 +1,6 @@
 -- Laws: two S records that are alike but for the employee, in contexts alike but for the sums: edit by edit they find the same; and an R record in two such
 -- contexts.
-use Rattle.std.specs.Prelude.{ℕ, true, ◌≡◌, eqb, get_or}
+use Rattle.std.specs.Prelude.{ℕ, true, ◌≡◌, get_or}
 use mathlib.Core.List.{List, [], ◌++◌}
 use Rattle.std.proofs.Math.Path.{refl, sym, ap₂}
 use Rattle.std.proofs.Common.{ap, ◌∙◌, eqb-true}

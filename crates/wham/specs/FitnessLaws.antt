@@ -1,5 +1,5 @@
 -- Laws: a sum of 64 bits exceeds none of 18,446,745 amounts or more.
-use Rattle.std.specs.Prelude.{ℕ, ◌*◌, ◌≤◌, ◌<◌, ◌≡◌, false, ltb}
+use Rattle.std.specs.Prelude.{ℕ, ◌*◌, ◌≤◌, ◌<◌, ◌≡◌, false}
 use Rattle.std.proofs.Common.{arith, le-ltb}
 use Rattle.wham.specs.Fitness.{most_cents, is_above}
 

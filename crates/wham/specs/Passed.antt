@@ -1,9 +1,8 @@
 -- Laws: what holds where a record passes: of the context, of the size of what the record says, and of the clauses of 72 after it.
-use Rattle.std.specs.Prelude.{ℕ, ◌+◌, ◌≤◌, ◌<◌, Bool, true, false, not, ◌&&◌, ◌||◌, List, [], ◌∷◌, ◌⊎◌, ◌≡◌, refl, eqb, leb, ltb, length, get_or}
+use Rattle.std.specs.Prelude.{ℕ, Bool, true, false, not, ◌&&◌, ◌||◌, List, [], ◌∷◌, ◌⊎◌, ◌≡◌, refl, eqb, leb, ltb, length, get_or}
 use Rattle.std.proofs.Math.Bool.{or-false}
 use Rattle.std.proofs.lemmas.Bool.{false≢true}
-use Rattle.std.proofs.Common.{inl, inr, sym, ap, ap₂, ◌∙◌, arith, eqb-true, leb-true, leb-false, ltb-false, le-ltb}
-use Rattle.laws.specs.Choice.{if◌then◌else◌}
+use Rattle.std.proofs.Common.{inl, inr, sym, ap, ap₂, ◌∙◌, arith, eqb-true, leb-true, leb-false, le-ltb}
 use Rattle.laws.specs.ChoiceLaws.{not_holds}
 use Rattle.laws.specs.Finding.{fine}
 use Rattle.calendar.specs.Quarters.{is_quarter_month, is_after}
@@ -30,14 +29,13 @@ use Rattle.edits.specs.declared.Phase.TheVariants.{BeforeA, AfterA, EOpen, After
 use Rattle.edits.specs.declared.Rule.TheVariants.{YearOfA, More}
 use Rattle.edits.specs.declared.FurtherRule.TheVariants.{YearHeld, ListRoom, QuarterOfE}
 use Rattle.edits.specs.declared.Seen.{Seen}
-use Rattle.shape.specs.After.{phase_after, filed_after, used_after}
+use Rattle.shape.specs.After.{phase_after, filed_after}
 use Rattle.shape.specs.Fits.{EndsE, Fits, Bounded}
 use Rattle.shape.specs.Limits.{most_employees}
-use Rattle.shape.specs.Phases.{stands}
 use Rattle.wham_fields.specs.declared.Edition.{Edition}
 use Rattle.wham_fields.specs.declared.Edition.TheVariants.{Of2024}
 use Rattle.wham.specs.Edits.{rows_for, rules_for, around, head_edits, text_edits}
-use Rattle.wham.specs.Fitness.{most_cents, is_above, second_unfit, no_quarter, quarter_unfit}
+use Rattle.wham.specs.Fitness.{no_quarter, quarter_unfit}
 use Rattle.wham.specs.Format.{wham_shape}
 use Rattle.wham.specs.Kinds.{landmarks_of}
 use Rattle.wham.specs.Place.{most_deposits, place_edits, count_edit}

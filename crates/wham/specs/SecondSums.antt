@@ -1,13 +1,12 @@
 -- Laws: the sums of the original tax stay within what 72 allows, and none wraps.
-use Rattle.std.specs.Prelude.{ℕ, ◌+◌, ◌*◌, ◌≤◌, ◌<◌, ◌^◌, Bool, true, false, ◌&&◌, ◌||◌, List, ◌≡◌, refl, ltb}
-use Rattle.std.proofs.Common.{inr, sym, ◌∙◌, le_trans, mul-le-mul, arith, ltb-false, le-ltb}
+use Rattle.std.specs.Prelude.{ℕ, ◌+◌, ◌*◌, ◌≤◌, ◌<◌, ◌^◌, Bool, true, false, ◌&&◌, List, ◌≡◌}
+use Rattle.std.proofs.Common.{inr, le_trans, arith, ltb-false, le-ltb}
 use Rattle.laws.specs.ChoiceLaws.{neither}
 use Rattle.number.specs.Numbers.{value_in}
 use Rattle.number.specs.NumberLaws.{value_below}
 use Rattle.edits.specs.Edit.{AllFine}
 use Rattle.edits.specs.declared.Context.{Context}
 use Rattle.edits.specs.declared.Open.{Open}
-use Rattle.edits.specs.declared.Phase.{Phase}
 use Rattle.edits.specs.declared.Phase.TheVariants.{EOpen}
 use Rattle.edits.specs.declared.Seen.{Seen}
 use Rattle.edits.specs.declared.Totals.{Totals}

@@ -1,6 +1,5 @@
 -- Laws: the rows of each record are as wide as their classes ask.
 use Rattle.std.specs.Prelude.{[]}
-use Rattle.std.proofs.Common.{arith}
 use Rattle.field.specs.Classes.{class_of, classes}
 use Rattle.edits.specs.RowTestLaws.{all_wide}
 use Rattle.edits.specs.Tests.{AllWide}

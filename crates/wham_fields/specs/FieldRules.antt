@@ -1,5 +1,5 @@
 -- Definitions: by which rule each field is held against its context: one number for each row of the list of fields, in its order.
-use Rattle.std.specs.Prelude.{ℕ, List, [], ◌∷◌, ◌++◌, replicate}
+use Rattle.std.specs.Prelude.{ℕ, List, ◌∷◌, ◌++◌, replicate}
 use Rattle.edits.specs.RuleNumbers.{rule_number}
 use Rattle.edits.specs.declared.FurtherRule.TheVariants.{YearHeld, QuarterOfE, ListRoom, AccountOfE, QuarterEnd, SecondOfS}
 use Rattle.edits.specs.declared.Rule.TheVariants.{Nothing, YearOfA, PeriodOfA, CountOfS, WagesOfS, FileCountOfS, FileCountOfE, FileWagesOfS, More}

@@ -1,5 +1,5 @@
 -- Laws: the rows of each record tile its columns, 1 to 275, in order, each is as wide as its class asks, and each has a rule beside it: computed tests.
-use Rattle.std.specs.Prelude.{ℕ, Bool, List, [], ◌≡◌, refl, T, length, get_or, take, drop}
+use Rattle.std.specs.Prelude.{ℕ, Bool, List, [], ◌≡◌, refl, T, length, take, drop}
 use Rattle.laws.specs.Table.{every}
 use Rattle.field.specs.Classes.{class_of, classes}
 use Rattle.edits.specs.RowTests.{tiles}

@@ -4,7 +4,6 @@ use Rattle.laws.specs.Spelling.{bytes}
 use Rattle.number.specs.Numbers.{put_digits, put_number}
 use Rattle.text.specs.Put.{blanks, put_text}
 use Rattle.edits.specs.declared.Open.{Open}
-use Rattle.edits.specs.declared.Totals.{Totals}
 use Rattle.write.specs.Records.{put_all}
 use Rattle.wham_write.specs.Records.{total_record, final_record}
 

@@ -1,6 +1,5 @@
 -- The loop's invariant: none of the rows passed is the code.
 -- The measure is the number of rows left.
-use Prim.Native.Nat.{◌-◌}
 use mathlib.Core.Path.{sym, ◌∙◌}
 use borrow.Author.Count.{below_none, below_more}
 use Rattle.codes.proofs.CodeRows.{is_state, is_province, is_unknown}

@@ -1,5 +1,4 @@
 -- The invariant: an end was found where the line is shorter than what was looked at.
-use Prim.Native.Nat.{◌-◌}
 use mathlib.Core.Path.{◌≡◌, sym}
 use native.Mathlib.Omega.{arith}
 use borrow.Author.Tests.{lt-ltb, le-ltb}

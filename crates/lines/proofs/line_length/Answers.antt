@@ -1,6 +1,5 @@
 -- The loop's invariant: the line's length is i and the length that it still has at i.
 -- The measure is what is left of `most`.
-use Prim.Native.Nat.{◌-◌}
 use native.Mathlib.Omega.{arith}
 use Rattle.lines.specs.Looking.{past, ends, goes_on, as_far_as}
 use Rattle.lines.proofs.line_length.Goals as goal

@@ -1,5 +1,4 @@
 -- The invariant: what is left to write makes of the line what the whole would.
-use Prim.Native.Nat.{◌-◌}
 use mathlib.Core.Path.{refl, sym, ap, ◌∙◌}
 use lib.ListN.{length, length-set}
 use Rattle.number.specs.Numbers.{put_number}

@@ -1,6 +1,6 @@
 -- The invariant: the places that are left, read behind the value so far, say what all of them say; and the value
 -- is below 2 times 10 to the places read.
-use Prim.Native.Nat.{◌+◌, ◌-◌, ◌*◌, ◌^◌, ◌<◌}
+use Prim.Native.Nat.{◌-◌}
 use mathlib.Core.Path.{◌≡◌, refl, sym, ◌∙◌}
 use native.Mathlib.Omega.{arith}
 use Rattle.plain.specs.Sweeps.{digits_done, digits_more, digits_fit, next_more}

@@ -1,14 +1,10 @@
 -- Test after test.
 use Prim.Native.Nat.{ℕ, ◌+◌}
-use mathlib.Core.Path.{◌≡◌, sym, ap, ◌∙◌}
+use mathlib.Core.Path.{sym, ap, ◌∙◌}
 use native.Mathlib.Omega.{arith}
 use lib.ListN.{drop}
 use Rattle.lines.specs.Laws.{end_short}
-use Rattle.chars.specs.Characters.{capitals}
-use Rattle.chars.specs.Columns.{every_column, is_fine}
-use Rattle.chars.specs.declared.columns.Allowed.TheVariants.{OfNames}
 use Rattle.plain.specs.SightOutcomes.{not_between, no_names, no_end, not_filed, is_plain_lem}
-use Rattle.plain.specs.Plain.{within, end_size}
 use Rattle.plain.proofs.sight_here.Goals as goal
 
 pub returns-then-not-within : goal.returns-then-not-within

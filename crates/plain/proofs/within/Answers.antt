@@ -1,5 +1,4 @@
 -- The invariant: what is told so far is told of the columns that the sweep has passed.
-use Prim.Native.Nat.{◌-◌}
 use mathlib.Core.Path.{◌≡◌, sym}
 use native.Mathlib.Omega.{arith}
 use Rattle.plain.specs.Sweeps.{within_none, within_more, within_two_more}

@@ -1,5 +1,4 @@
 -- The invariant: the symbols left say what the whole pattern says.
-use Prim.Native.Nat.{◌-◌}
 use mathlib.Core.Path.{refl, sym, ◌∙◌}
 use Rattle.text.specs.TextLaws.{pattern_done, pattern_not, pattern_more}
 use Rattle.text.proofs.reads_as.Goals as goal

@@ -2,8 +2,6 @@ use Prim.Native.Nat.{ℕ}
 use mathlib.Core.Path.{◌∙◌}
 use native.Mathlib.Nat.{le_refl}
 use lib.ListN.{length}
-use Rattle.tables.proofs.ids.put.Reads as put_reads
-use Rattle.tables.proofs.ids.zero_first.Reads as zero-first-reads
 use Rattle.tables.specs.Laws.{wiped_all}
 use Rattle.walk.proofs.change_ids.Goals as goal
 

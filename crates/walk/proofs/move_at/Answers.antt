@@ -1,6 +1,4 @@
-use borrow.Author.Rules.{rules}
 use lib.ListN.{drop_of_length-le}
-use Rattle.step.proofs.line.line_move.Reads as line-move-reads
 use Rattle.walk.specs.WholeLaws.{rest}
 use Rattle.walk.proofs.move_at.Goals as goal
 

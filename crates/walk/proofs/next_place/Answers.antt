@@ -1,5 +1,4 @@
 use borrow.Author.Tests.{eq-eqb, ne_eqb}
-use Rattle.step.proofs.taken_in.Reads as taken-in-reads
 use Rattle.walk.proofs.next_place.Goals as goal
 
 pub returns-then-taken-eq0 : goal.returns-then-taken-eq0

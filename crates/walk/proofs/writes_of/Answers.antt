@@ -1,4 +1,3 @@
-use Rattle.walk.proofs.no_writes.Reads as no-writes-reads
 use Rattle.walk.proofs.writes_of.Goals as goal
 
 pub returns-in-Nothing : goal.returns-in-Nothing

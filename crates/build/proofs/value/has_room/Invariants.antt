@@ -1,5 +1,5 @@
 -- The invariant: what is left has room in the digits left exactly if the number has.
-use Prim.Native.Nat.{◌-◌, ◌^◌}
+use Prim.Native.Nat.{◌^◌}
 use mathlib.Core.Path.{◌≡◌}
 use lib.Dec.{ltb}
 use Rattle.build.proofs.value.has_room.Given as goal

@@ -1,5 +1,4 @@
 -- The invariant: the columns left say what all of them say.
-use Prim.Native.Nat.{◌-◌}
 use mathlib.Core.Path.{sym, ap, ◌∙◌}
 use Rattle.laws.specs.First.{first_done, first_next, first_found}
 use Rattle.reason.specs.ReasonNumbers.{finding_of}

@@ -1,6 +1,5 @@
 -- Nothing is found yet in either loop. Outside, the fields left say what all of them say;
 -- inside, the columns left say what the field's class test says.
-use Prim.Native.Nat.{◌-◌}
 use mathlib.Core.Path.{refl, sym, ap, ◌∙◌}
 use native.Mathlib.Nat.{sub-zero}
 use lib.ListN.{get_or}
@@ -48,13 +47,12 @@ overflow_add-k c = let room = c.well_formed.1.1.1.1.1.0 in search rules
 
 -- the field passes
 pub fields-preserved : goal.fields-preserved
-fields-preserved c =
-    (
-      c.loop-at.invariant.0,
-      c.fields.invariant.1 ∙ first_next _ _ _ c.fields-test.true (class_passes _ _ _ _ _ _ _ c.row_at-row.ensures c.class_of-class.ensures _ _
-          (c.loop-at.invariant.1 ∙ first_done _ _ _ c.loop-at-test.false)
-          (c.rule_of-rule.ensures ∙ ap rule_of c.number_at.ensures) c.rules_edit-e.ensures ∙ ap finding_of c.in_default-e-2.is),
-    )
+fields-preserved c = (
+  c.loop-at.invariant.0,
+  c.fields.invariant.1 ∙ first_next _ _ _ c.fields-test.true (class_passes _ _ _ _ _ _ _ c.row_at-row.ensures c.class_of-class.ensures _ _
+      (c.loop-at.invariant.1 ∙ first_done _ _ _ c.loop-at-test.false)
+      (c.rule_of-rule.ensures ∙ ap rule_of c.number_at.ensures) c.rules_edit-e.ensures ∙ ap finding_of c.in_default-e-2.is),
+)
 
 -- every field has passed
 pub returns-after-fields : goal.returns-after-fields

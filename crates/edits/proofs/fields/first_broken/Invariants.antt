@@ -3,7 +3,6 @@
 use Prim.Native.Nat.{◌-◌}
 use mathlib.Core.Path.{◌≡◌}
 use lib.ListN.{length}
-use borrow.Author.Rules.{rules}
 use Rattle.laws.specs.Finding.{first_of}
 use Rattle.reason.specs.declared.Edit.TheVariants.{Passed}
 use Rattle.chars.specs.Characters.{capitals}

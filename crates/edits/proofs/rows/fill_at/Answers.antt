@@ -1,5 +1,4 @@
 -- The invariant: the columns that are left, filled, make of the line what all of them would.
-use Prim.Native.Nat.{◌-◌}
 use mathlib.Core.Path.{refl, sym, ◌∙◌}
 use borrow.Author.Rules.{rules}
 use Rattle.text.specs.PutLaws.{text_sets}

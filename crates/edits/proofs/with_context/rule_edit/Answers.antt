@@ -58,10 +58,10 @@ returns-in-FileWagesOfS c = rw (c.in-FileWagesOfS.is, of_one _) c.unless-in-File
 
 pub returns-in-FinalIfCurrent : goal.returns-in-FinalIfCurrent
 returns-in-FinalIfCurrent c = rw (
-      c.in-FinalIfCurrent.is,
-      ← ap (λ (q : Quarter). timing_of q c.args.around.filed) c.quarter_held-held.ensures,
-      ← c.timing_of-in-FinalIfCurrent.ensures,
-    ) c.final_if_current.ensures
+  c.in-FinalIfCurrent.is,
+  ← ap (λ (q : Quarter). timing_of q c.args.around.filed) c.quarter_held-held.ensures,
+  ← c.timing_of-in-FinalIfCurrent.ensures,
+) c.final_if_current.ensures
 
 pub returns-in-More : goal.returns-in-More
 returns-in-More c = rw c.in-More.is c.rule_edit.ensures

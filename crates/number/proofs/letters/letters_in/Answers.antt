@@ -1,6 +1,6 @@
 -- The invariant: what is left to read says what the whole says, and the value so far is below 256 to
 -- the number of columns read.
-use Prim.Native.Nat.{◌-◌, ◌<◌}
+use Prim.Native.Nat.{◌<◌}
 use mathlib.Core.Path.{sym, ◌∙◌}
 use native.Mathlib.Omega.{arith}
 use native.Mathlib.Nat.{sub_self}

@@ -1,5 +1,4 @@
 -- What is found is what is among the numbers looked at.
-use Prim.Native.Nat.{◌-◌}
 use mathlib.Core.Path.{◌≡◌, sym, ◌∙◌}
 use native.Mathlib.Omega.{arith}
 use Rattle.tables.specs.Laws.{among_none}

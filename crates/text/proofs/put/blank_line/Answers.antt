@@ -1,5 +1,4 @@
 -- The invariant: the columns passed are blank.
-use Prim.Native.Nat.{◌-◌}
 use mathlib.Core.Path.{refl, ap, ◌∙◌}
 use native.Mathlib.Omega.{arith}
 use lib.ListN.{set}

@@ -1,5 +1,4 @@
 -- The invariant: what is left of the text makes of the line what the whole would.
-use Prim.Native.Nat.{◌-◌}
 use mathlib.Core.Path.{refl, sym, ◌∙◌}
 use borrow.Author.Rules.{rules}
 use Rattle.text.specs.Put.{put_text}
