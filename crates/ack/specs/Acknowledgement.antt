@@ -1,6 +1,5 @@
 -- Definitions: what the program answers: all input bytes to all output bytes.
-use Rattle.std.specs.Prelude.{ℕ, List, drop}
-use Rattle.laws.specs.Choice.{if◌then◌else◌}
+use Rattle.std.specs.Prelude.{ℕ, List, drop, if◌then◌else◌}
 use Rattle.tables.specs.Room.{Room}
 use Rattle.edits.specs.Formats.{may_open}
 use Rattle.edits.specs.declared.Opening.{Opening}

@@ -1,8 +1,7 @@
 -- Laws: what a turn leaves over before the input has ended is less than the longest line,
 -- so a program's buffer of fixed size always has room for the next read.
-use Rattle.std.specs.Prelude.{ℕ, zero, suc, ◌-◌, ◌<◌, Bool, true, false, List, [], ◌∷◌, ◌≡◌, refl, eqb, leb, length, drop}
+use Rattle.std.specs.Prelude.{ℕ, zero, suc, ◌-◌, ◌<◌, Bool, true, false, List, [], ◌∷◌, ◌≡◌, refl, eqb, leb, length, drop, if◌then◌else◌}
 use Rattle.std.proofs.Common.{arith, leb-false}
-use Rattle.laws.specs.Choice.{if◌then◌else◌}
 use Rattle.edits.specs.declared.format.Format.{Format}
 use Rattle.tables.specs.Room.{Tables}
 use Rattle.state.specs.Walks.{Walk}

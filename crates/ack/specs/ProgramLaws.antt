@@ -1,6 +1,6 @@
 -- Laws: program-means, of the walk: whatever the reads are, the turns end as one walk over all that was read.
 use Prim.Native.Nat.{ℕ, zero, suc, ◌+◌, ◌-◌, ◌≤◌, ◌<◌}
-use Rattle.std.specs.Prelude.{Bool, true, ◌≡◌, eqb, leb, length, drop, get_or}
+use Rattle.std.specs.Prelude.{Bool, true, ◌≡◌, eqb, leb, length, drop, get_or, if◌then◌else◌}
 use Rattle.std.proofs.Math.Bool.{false}
 use mathlib.Core.List.{List, [], ◌∷◌, ◌++◌, append-nil, append_assoc}
 use Rattle.std.proofs.Common.{inl, sym, subst, ◌∙◌, le_refl, zero-add, arith, length-append, drop-drop, get_or-take, leb-true, eqb-true}
@@ -8,7 +8,6 @@ use Rattle.std.proofs.Math.Path.{refl, ap}
 use Rattle.std.proofs.Math.Seq.{take-append_seam, drop-nil}
 use Rattle.std.proofs.lemmas.List.{drop-append-le}
 use Rattle.std.proofs.lemmas.Bool.{eqb-false}
-use Rattle.laws.specs.Choice.{if◌then◌else◌}
 use Rattle.laws.specs.Lists.{behind}
 use Rattle.number.specs.NumberLaws.{number_in_front}
 use Rattle.number.specs.Numbers.{number_in}

@@ -1,6 +1,5 @@
 -- Definitions: a file that is read piece by piece. A turn takes the lines that are whole in what is held; what is left over stands before the next read.
-use Rattle.std.specs.Prelude.{ℕ, zero, suc, ◌-◌, ◌/◌, ◌%◌, Bool, ◌||◌, List, [], ◌∷◌, eqb, leb, length, drop, get_or}
-use Rattle.laws.specs.Choice.{if◌then◌else◌}
+use Rattle.std.specs.Prelude.{ℕ, zero, suc, ◌-◌, ◌/◌, ◌%◌, Bool, ◌||◌, List, [], ◌∷◌, eqb, leb, length, drop, get_or, if◌then◌else◌}
 use Rattle.laws.specs.Finding.{Reading, value, refused}
 use Rattle.calendar.specs.declared.Quarter.{Quarter}
 use Rattle.number.specs.Numbers.{number_in}

@@ -1,6 +1,5 @@
 -- Definitions: when two files of a format are alike but for the employees (demand 3).
-use Rattle.std.specs.Prelude.{ℕ, ◌+◌, Bool, List, [], ◌∷◌, ◌++◌, map, ◌≡◌, eqb}
-use Rattle.laws.specs.Choice.{if◌then◌else◌}
+use Rattle.std.specs.Prelude.{ℕ, ◌+◌, Bool, List, [], ◌∷◌, ◌++◌, map, ◌≡◌, eqb, if◌then◌else◌}
 use Rattle.lines.specs.Lines.{Line, lines_of, joined}
 use Rattle.shape.specs.Hidden.{is_employee, is_employer, is_note, employee_on, blot, MeetsOwn}
 use Rattle.shape.specs.Shape.{Shape}

@@ -1,10 +1,9 @@
 -- Laws: ignored_is_ignored: what an acknowledgement and the lent tables tell of two amended withholding files that are the same but in ignored columns is the
 -- same.
-use Rattle.std.specs.Prelude.{ℕ, ◌+◌, ◌≤◌, min, Bool, true, false, ◌&&◌, List, [], ◌∷◌, ◌++◌, map, ◌≡◌, refl, eqb, get_or}
+use Rattle.std.specs.Prelude.{ℕ, ◌+◌, ◌≤◌, min, Bool, true, false, ◌&&◌, List, [], ◌∷◌, ◌++◌, map, ◌≡◌, refl, eqb, get_or, if◌then◌else◌}
 use Rattle.std.proofs.Math.Path.{sym, ap, ap₂}
 use Rattle.std.proofs.Common.{◌∙◌, le_of_eq, arith, ext_get_or, drop_at, eqb-true}
 use Rattle.std.proofs.Math.ListN.{length}
-use Rattle.laws.specs.Choice.{if◌then◌else◌}
 use Rattle.laws.specs.ChoiceLaws.{both_hold}
 use Rattle.laws.specs.Finding.{fine, broken}
 use Rattle.lines.specs.Cutting.{beyond, length_test, end_test}

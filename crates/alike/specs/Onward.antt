@@ -1,7 +1,6 @@
 -- Laws: a record further, two files that are alike still come to the same.
-use Rattle.std.specs.Prelude.{ℕ, ◌+◌, Bool, true, false, ◌||◌, List, [], ◌∷◌, ◌++◌, ◌≡◌, refl, eqb, length}
+use Rattle.std.specs.Prelude.{ℕ, ◌+◌, Bool, true, false, ◌||◌, List, [], ◌∷◌, ◌++◌, ◌≡◌, refl, eqb, length, if◌then◌else◌}
 use Rattle.std.proofs.Common.{sym, ap, ◌∙◌, arith, length-append, eqb-true, ne_eqb}
-use Rattle.laws.specs.Choice.{if◌then◌else◌}
 use Rattle.lines.specs.Lines.{Line}
 use Rattle.edits.specs.Counted.{open_with, totals_with}
 use Rattle.edits.specs.declared.Open.{Open}

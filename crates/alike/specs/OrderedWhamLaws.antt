@@ -1,10 +1,9 @@
 -- Laws: demand 3 of the amended withholding file follows from that of every format: no S record of it says an identity number.
-use Rattle.std.specs.Prelude.{ℕ, Bool, ◌||◌, ◌≡◌, length}
+use Rattle.std.specs.Prelude.{ℕ, Bool, ◌||◌, ◌≡◌, length, if◌then◌else◌}
 use Rattle.std.proofs.Math.Bool.{true, false}
 use mathlib.Core.List.{List, [], ◌∷◌, ◌++◌, map}
 use Rattle.std.proofs.Math.Path.{refl, ap, ap₂}
 use Rattle.std.proofs.Common.{sym, ◌∙◌, arith}
-use Rattle.laws.specs.Choice.{if◌then◌else◌}
 use Rattle.lines.specs.Changed.{changed_lines}
 use Rattle.lines.specs.Lines.{Line, lines_of}
 use Rattle.chars.specs.Characters.{capitals}

@@ -1,8 +1,7 @@
 -- Laws: account_read_back, no_account_reads: the account number that a record was built with is read back; "An empty account number gives ten blanks."
-use Rattle.std.specs.Prelude.{ℕ, zero, suc, ◌+◌, ◌-◌, ◌<◌, ◌≤◌, Bool, true, false, List, [], ◌∷◌, map, ◌≡◌, refl, eqb, ltb, length, get_or, take, drop}
+use Rattle.std.specs.Prelude.{ℕ, zero, suc, ◌+◌, ◌-◌, ◌<◌, ◌≤◌, Bool, true, false, List, [], ◌∷◌, map, ◌≡◌, refl, eqb, ltb, length, get_or, take, drop, if◌then◌else◌}
 use Rattle.std.proofs.Common.{sym, ap, ◌∙◌, not-suc-le-zero, le_of_suc-le-suc, arith, length-drop, length-take-le, get_or-take, get_or-drop, ext_get_or, ne_eqb, ltb-true, ltb-false}
 use Rattle.std.proofs.lemmas.List.{length-replicate, get_or-replicate}
-use Rattle.laws.specs.Choice.{if◌then◌else◌}
 use Rattle.laws.specs.Finding.{Reading, value, refused}
 use Rattle.chars.specs.Characters.{is_digit}
 use Rattle.chars.specs.CharacterLaws.{digit_range}

@@ -1,9 +1,8 @@
 -- Laws: every field of a padded record whose values fit reads as its value.
-use Rattle.std.specs.Prelude.{ℕ, suc, Bool, true, false, ◌≡◌, refl, eqb, length, drop}
+use Rattle.std.specs.Prelude.{ℕ, suc, Bool, true, false, ◌≡◌, refl, eqb, length, drop, if◌then◌else◌}
 use mathlib.Core.List.{List, [], ◌∷◌}
 use Rattle.std.proofs.Common.{ap, ◌∙◌, arith}
 use Rattle.std.proofs.Math.ListN.{get_or}
-use Rattle.laws.specs.Choice.{if◌then◌else◌}
 use Rattle.chars.specs.Characters.{capitals}
 use Rattle.chars.specs.Columns.{width_of}
 use Rattle.field.specs.Classes.{class_of}

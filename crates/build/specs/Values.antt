@@ -1,6 +1,5 @@
 -- Definitions: the values that a record is built from, and what a field reads as.
-use Rattle.std.specs.Prelude.{ℕ, ◌-◌, List, [], ◌∷◌, eqb, get_or, take, drop}
-use Rattle.laws.specs.Choice.{if◌then◌else◌}
+use Rattle.std.specs.Prelude.{ℕ, ◌-◌, List, [], ◌∷◌, eqb, get_or, take, drop, if◌then◌else◌}
 use Rattle.laws.specs.Finding.{Reading, value, refused}
 use Rattle.laws.specs.Spelling.{bytes}
 use Rattle.chars.specs.Characters.{is_blank, capitals}

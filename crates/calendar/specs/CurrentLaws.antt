@@ -1,11 +1,10 @@
 -- Laws: the current quarter is the one right after the last closed, and after 12 of 9999 there is none;
 -- and what each answer of the period test says of a quarter.
-use Rattle.std.specs.Prelude.{ℕ, ◌+◌, ◌*◌, ◌≤◌, ◌<◌, Bool, true, false, ◌⊎◌, ◌≡◌, ltb}
+use Rattle.std.specs.Prelude.{ℕ, ◌+◌, ◌*◌, ◌≤◌, ◌<◌, Bool, true, false, ◌⊎◌, ◌≡◌, ltb, if◌then◌else◌}
 use Rattle.std.proofs.lemmas.Bool.{false≢true}
 use Rattle.std.proofs.Common.{true≢false, inl, inr, sym, arith}
 use Rattle.std.proofs.Math.Path.{refl}
 use borrow.Author.Tests.{eqb-true, eq-eqb, ltb-true, ltb-false}
-use Rattle.laws.specs.Choice.{if◌then◌else◌}
 use Rattle.laws.specs.ChoiceLaws.{both_hold}
 use Rattle.calendar.specs.Quarters.{last_year, is_quarter_month, is_after, is_same, current_quarter, timing_of, may_report}
 use Rattle.calendar.specs.Laws.{ComesLater, not_true, quarter_months, after_later, later_after, not_later, neither_after}

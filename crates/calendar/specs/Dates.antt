@@ -1,6 +1,5 @@
 -- Definitions: calendar dates, and the quarter that a date lies in.
-use Rattle.std.specs.Prelude.{ℕ, ◌+◌, ◌/◌, ◌%◌, Bool, ◌&&◌, [], ◌∷◌, eqb, leb, get_or}
-use Rattle.laws.specs.Choice.{if◌then◌else◌}
+use Rattle.std.specs.Prelude.{ℕ, ◌+◌, ◌/◌, ◌%◌, Bool, ◌&&◌, [], ◌∷◌, eqb, leb, get_or, if◌then◌else◌}
 use Rattle.calendar.specs.declared.Quarter.{Quarter}
 
 -- "by the Gregorian leap rule": every fourth year, of the full centuries every fourth.

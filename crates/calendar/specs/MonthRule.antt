@@ -1,7 +1,6 @@
 -- Follows the code; need not be believed. The days of a month by rule, with no table.
-use Rattle.std.specs.Prelude.{ℕ, ◌+◌, ◌/◌, ◌%◌, ◌≤◌, ◌≡◌, eqb, replicate}
+use Rattle.std.specs.Prelude.{ℕ, ◌+◌, ◌/◌, ◌%◌, ◌≤◌, ◌≡◌, eqb, replicate, if◌then◌else◌}
 use Rattle.std.proofs.Common.{eqb-true, arith}
-use Rattle.laws.specs.Choice.{if◌then◌else◌}
 use Rattle.laws.specs.Table.{at}
 use Rattle.calendar.specs.Dates.{month_days}
 

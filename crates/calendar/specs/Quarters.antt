@@ -1,6 +1,5 @@
 -- Definitions: which quarters the paper allows, which of two is the later, and how one stands to the last closed.
-use Rattle.std.specs.Prelude.{ℕ, ◌+◌, Bool, true, false, ◌&&◌, ◌||◌, eqb, leb, ltb}
-use Rattle.laws.specs.Choice.{if◌then◌else◌}
+use Rattle.std.specs.Prelude.{ℕ, ◌+◌, Bool, true, false, ◌&&◌, ◌||◌, eqb, leb, ltb, if◌then◌else◌}
 use Rattle.calendar.specs.declared.Quarter.{Quarter}
 use Rattle.calendar.specs.declared.Timing.{Timing}
 use Rattle.calendar.specs.declared.Timing.TheVariants.{Closed, Current, Later}

@@ -1,6 +1,5 @@
 -- Definitions: characters, and how they are read.
-use Rattle.std.specs.Prelude.{ℕ, ◌-◌, Bool, ◌&&◌, ◌||◌, List, map, eqb, leb}
-use Rattle.laws.specs.Choice.{if◌then◌else◌}
+use Rattle.std.specs.Prelude.{ℕ, ◌-◌, Bool, ◌&&◌, ◌||◌, List, map, eqb, leb, if◌then◌else◌}
 
 -- "Characters are hex 20 to 7E"
 unfoldable pub is_permitted : ℕ → Bool

@@ -1,8 +1,7 @@
 -- Laws: what a loop over a field's columns uses of columns, and what the columns of a field hold.
-use Rattle.std.specs.Prelude.{ℕ, ◌+◌, ◌-◌, ◌<◌, ◌≤◌, ◌≡◌, refl, Bool, true, false, List, get_or}
+use Rattle.std.specs.Prelude.{ℕ, ◌+◌, ◌-◌, ◌<◌, ◌≤◌, ◌≡◌, refl, Bool, true, false, List, get_or, if◌then◌else◌}
 use native.Mathlib.Omega.{arith}
 use borrow.Author.Tests.{eqb-true, le-leb}
-use Rattle.laws.specs.Choice.{if◌then◌else◌}
 use Rattle.laws.specs.Finding.{fine, broken, first_of}
 use Rattle.laws.specs.First.{first_of_first, none_is_broken, finds_nothing}
 use Rattle.laws.specs.Labelled.{Labelled, labelled_says, says_labelled, fine_labelled, broken_labelled}

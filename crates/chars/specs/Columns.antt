@@ -1,7 +1,6 @@
 -- Definitions: columns of a line, counted from 1: column c is place c - 1 of the list of its characters.
 -- After a line's last column there is no character, told as 0; column 0 is read as column 1.
-use Rattle.std.specs.Prelude.{ℕ, ◌+◌, ◌-◌, Bool, true, false, List, get_or}
-use Rattle.laws.specs.Choice.{if◌then◌else◌}
+use Rattle.std.specs.Prelude.{ℕ, ◌+◌, ◌-◌, Bool, true, false, List, get_or, if◌then◌else◌}
 use Rattle.laws.specs.Finding.{Finding, fine, broken, first_of}
 use Rattle.chars.specs.Characters.{is_permitted, is_blank, is_digit, is_of_name}
 use Rattle.chars.specs.declared.columns.Allowed.{Allowed}

@@ -1,6 +1,5 @@
 -- Definitions: the codes of Appendix A, and what each stands for.
-use Rattle.std.specs.Prelude.{ℕ, Bool, false, ◌&&◌, ◌||◌, true, not, List, [], ◌∷◌, eqb, get_or}
-use Rattle.laws.specs.Choice.{if◌then◌else◌}
+use Rattle.std.specs.Prelude.{ℕ, Bool, false, ◌&&◌, ◌||◌, true, not, List, [], ◌∷◌, eqb, get_or, if◌then◌else◌}
 use Rattle.laws.specs.Spelling.{bytes}
 use Rattle.codes.specs.declared.Region.{Region}
 use Rattle.codes.specs.declared.Region.TheVariants.{State, Province, Unknown}

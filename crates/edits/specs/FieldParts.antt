@@ -1,7 +1,6 @@
 -- Laws: the field as it is tested, the class test and then the rules after it, is the field's list of edits.
-use Rattle.std.specs.Prelude.{ℕ, ◌≡◌, refl, Bool, true, false, List, ◌++◌, eqb}
+use Rattle.std.specs.Prelude.{ℕ, ◌≡◌, refl, Bool, true, false, List, ◌++◌, eqb, if◌then◌else◌}
 use Rattle.std.proofs.Common.{sym, ap, ◌∙◌}
-use Rattle.laws.specs.Choice.{if◌then◌else◌}
 use Rattle.laws.specs.Finding.{fine, or_else, finding_in, Reading, value, refused}
 use Rattle.chars.specs.Columns.{every_column}
 use Rattle.chars.specs.ColumnLaws.{every_anything}

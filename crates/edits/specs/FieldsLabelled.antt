@@ -1,7 +1,6 @@
 -- Laws: what an edit of a field finds is told by its label.
-use Rattle.std.specs.Prelude.{ℕ, ◌+◌, Bool, true, false, refl, List, [], ◌∷◌, get_or}
+use Rattle.std.specs.Prelude.{ℕ, ◌+◌, Bool, true, false, refl, List, [], ◌∷◌, get_or, if◌then◌else◌}
 use Rattle.std.proofs.Common.{arith}
-use Rattle.laws.specs.Choice.{if◌then◌else◌}
 use Rattle.laws.specs.Finding.{Finding}
 use Rattle.laws.specs.Labelled.{Labelled, labelled_says, says_labelled, fine_labelled, choice_labelled}
 use Rattle.chars.specs.Columns.{every_column}

@@ -1,7 +1,6 @@
 -- Follows the code; need not be believed. The own rules of classes that PFML has not, as they are tested after the class test; and that these are their edits.
-use Rattle.std.specs.Prelude.{ℕ, Bool, true, false, not, ◌||◌, List, ◌≡◌, refl, eqb}
+use Rattle.std.specs.Prelude.{ℕ, Bool, true, false, not, ◌||◌, List, ◌≡◌, refl, eqb, if◌then◌else◌}
 use Rattle.std.proofs.Common.{sym, ◌∙◌}
-use Rattle.laws.specs.Choice.{if◌then◌else◌}
 use Rattle.laws.specs.Finding.{Finding, or_else}
 use Rattle.chars.specs.Columns.{every_column, unless}
 use Rattle.chars.specs.ColumnLaws.{every_anything}

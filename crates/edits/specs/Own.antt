@@ -1,6 +1,5 @@
 -- Definitions: the edits of a field by itself and by other fields of the same record: what the paper asks of it whatever stands on other lines.
-use Rattle.std.specs.Prelude.{ℕ, Bool, not, ◌&&◌, ◌||◌, List, [], ◌∷◌, ◌++◌, eqb}
-use Rattle.laws.specs.Choice.{if◌then◌else◌}
+use Rattle.std.specs.Prelude.{ℕ, Bool, not, ◌&&◌, ◌||◌, List, [], ◌∷◌, ◌++◌, eqb, if◌then◌else◌}
 use Rattle.laws.specs.Finding.{fine, finding_in}
 use Rattle.calendar.specs.Dates.{is_date}
 use Rattle.calendar.specs.Quarters.{is_filing_year}

@@ -1,7 +1,6 @@
 -- Follows the code; need not be believed. A field as it is tested: its class test, its own rules, its context, in this order; and the first broken field.
 -- Then how wide a field has to be for the test to find what the field's list of edits finds.
-use Rattle.std.specs.Prelude.{ℕ, ◌-◌, ◌<◌, ◌≤◌, Bool, List, eqb, length, get_or}
-use Rattle.laws.specs.Choice.{if◌then◌else◌}
+use Rattle.std.specs.Prelude.{ℕ, ◌-◌, ◌<◌, ◌≤◌, Bool, List, eqb, length, get_or, if◌then◌else◌}
 use Rattle.laws.specs.Finding.{Finding, fine, broken, or_else, first_of, finding_in, Reading, value, refused}
 use Rattle.calendar.specs.Dates.{is_date}
 use Rattle.chars.specs.Columns.{unless, width_of}

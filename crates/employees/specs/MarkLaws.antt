@@ -1,5 +1,5 @@
 -- Laws: the marks: the numbers in use are marked, whatever else is.
-use Rattle.std.specs.Prelude.{ℕ, zero, suc, ◌+◌, ◌*◌, ◌/◌, ◌%◌, ◌^◌, ◌≤◌, ◌<◌, min, max, Bool, true, false, ◌||◌, List, [], ◌∷◌, ◌++◌, ◌⊎◌, ◌≡◌, refl, eqb, leb, length, get_or, take, set}
+use Rattle.std.specs.Prelude.{ℕ, zero, suc, ◌+◌, ◌*◌, ◌/◌, ◌%◌, ◌^◌, ◌≤◌, ◌<◌, min, max, Bool, true, false, ◌||◌, List, [], ◌∷◌, ◌++◌, ◌⊎◌, ◌≡◌, refl, eqb, leb, length, get_or, take, set, if◌then◌else◌}
 use Rattle.std.proofs.lemmas.Bool.{false≢true, eqb-false, lt-leb}
 use Rattle.std.proofs.Common.{inl, inr, sym, ◌∙◌, add-one, arith, length-set, pow_pos, lt-length-set, take-suc, get_or-set_same, get_or-set_other, eqb-true, eq-eqb, leb-false, le-leb}
 use Rattle.std.proofs.Math.Nat.{div_self, pow-le-pow_right}
@@ -10,7 +10,6 @@ use Rattle.std.proofs.lemmas.List.{take-set-le}
 use Rattle.tables.specs.Laws.{among_none}
 use Rattle.tables.specs.TableSteps.{among_more, take_least}
 use Rattle.tables.specs.Tables.{is_among}
-use Rattle.laws.specs.Choice.{if◌then◌else◌}
 use Rattle.plain.specs.declared.Sighted.{Sighted}
 use Rattle.state.specs.Walks.{Walk}
 use Rattle.shape.specs.After.{one_used}

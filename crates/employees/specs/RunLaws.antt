@@ -1,11 +1,10 @@
 -- Laws: a run: what holds of a line that a walk takes, what the walk is after it, and how far a run goes.
 use Prim.Native.Nat.{ℕ, zero, suc, ◌+◌, ◌-◌, ◌≤◌, ◌<◌, ◌^◌}
-use Rattle.std.specs.Prelude.{Bool, true, false, not, ◌&&◌, ◌||◌, List, ◌⊎◌, ◌≡◌, eqb, leb, ltb, length, take, drop}
+use Rattle.std.specs.Prelude.{Bool, true, false, not, ◌&&◌, ◌||◌, List, ◌⊎◌, ◌≡◌, eqb, leb, ltb, length, take, drop, if◌then◌else◌}
 use Rattle.std.proofs.lemmas.Bool.{false≢true, lt-leb, eqb-false, not-true}
 use Rattle.std.proofs.Math.Bool.{or-true}
 use Rattle.std.proofs.Common.{inl, inr, sym, ap, ◌∙◌, suc-add, zero-add, add-zero, arith, length-drop, length-set, take_all, ltb-true, lt-ltb, eqb-true}
 use Rattle.std.proofs.Math.Path.{refl}
-use Rattle.laws.specs.Choice.{if◌then◌else◌}
 use Rattle.laws.specs.ChoiceLaws.{both_hold}
 use Rattle.lines.specs.Lines.{first_line}
 use Rattle.chars.specs.Characters.{capitals}

@@ -1,7 +1,6 @@
 -- Follows the code; need not be believed. A run of PFML's S records under one employer, each found good by one sweep, taken one after the other as a
 -- call for each of them would take it.
-use Rattle.std.specs.Prelude.{ℕ, zero, suc, ◌+◌, Bool, not, ◌&&◌, ◌||◌, List, eqb, ltb, length, take, drop}
-use Rattle.laws.specs.Choice.{if◌then◌else◌}
+use Rattle.std.specs.Prelude.{ℕ, zero, suc, ◌+◌, Bool, not, ◌&&◌, ◌||◌, List, eqb, ltb, length, take, drop, if◌then◌else◌}
 use Rattle.reason.specs.ReasonNumbers.{Notice}
 use Rattle.edits.specs.Formats.{is_pfml}
 use Rattle.shape.specs.Limits.{most_employees}

@@ -1,6 +1,5 @@
 -- Follows the code; need not be believed. The class test of a field: what its text says as a whole, then what its columns may hold.
-use Rattle.std.specs.Prelude.{ℕ, List}
-use Rattle.laws.specs.Choice.{if◌then◌else◌}
+use Rattle.std.specs.Prelude.{ℕ, List, if◌then◌else◌}
 use Rattle.laws.specs.Finding.{Finding, fine, or_else}
 use Rattle.chars.specs.Columns.{every_column}
 use Rattle.text.specs.Text.{all_blank, required_text, optional_text}

@@ -1,10 +1,9 @@
 -- Follows the code; need not be believed. The frames in two parts, as the code writes them: those of the employers,
 -- for which it needs the list, and then the last one.
-use Rattle.std.specs.Prelude.{ℕ, ◌+◌, ◌*◌, ◌^◌, ◌≤◌, ◌<◌, Bool, List, ◌++◌, ◌≡◌, ltb, length, take}
+use Rattle.std.specs.Prelude.{ℕ, ◌+◌, ◌*◌, ◌^◌, ◌≤◌, ◌<◌, Bool, List, ◌++◌, ◌≡◌, ltb, length, take, if◌then◌else◌}
 use Rattle.std.proofs.Math.Bool.{true, false}
 use Rattle.std.proofs.Math.Path.{refl, sym, ap}
 use Rattle.std.proofs.Common.{◌∙◌, arith, ltb-true, ltb-false}
-use Rattle.laws.specs.Choice.{if◌then◌else◌}
 use Rattle.edits.specs.declared.Totals.{Totals}
 use Rattle.edits.specs.declared.format.Format.{Format}
 use Rattle.tables.specs.Room.{most_employers}

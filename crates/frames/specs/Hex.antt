@@ -1,6 +1,5 @@
 -- Definitions: numbers in hexadecimal: capitals, the highest digit first.
-use Rattle.std.specs.Prelude.{ℕ, zero, suc, ◌+◌, ◌/◌, ◌%◌, List, [], ◌∷◌, ◌++◌, ltb}
-use Rattle.laws.specs.Choice.{if◌then◌else◌}
+use Rattle.std.specs.Prelude.{ℕ, zero, suc, ◌+◌, ◌/◌, ◌%◌, List, [], ◌∷◌, ◌++◌, ltb, if◌then◌else◌}
 
 -- 0 to 9 are 30 to 39 hex, A to F are 41 to 46 hex.
 unfoldable pub hex_digit : ℕ → ℕ

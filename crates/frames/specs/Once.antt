@@ -1,7 +1,6 @@
 -- Laws: the numbers lose nothing of an answer: no second answer, and no second content of the buffer, fits a promise.
-use Rattle.std.specs.Prelude.{ℕ, List, ◌≡◌, refl, eqb}
+use Rattle.std.specs.Prelude.{ℕ, List, ◌≡◌, refl, eqb, if◌then◌else◌}
 use Rattle.std.proofs.Common.{sym, ap, ◌∙◌}
-use Rattle.laws.specs.Choice.{if◌then◌else◌}
 use Rattle.frames.specs.Frames.{FramedNumbers, framed_numbers, Framing, framed_by}
 use Rattle.frames.specs.declared.Framed.{Framed}
 use Rattle.frames.specs.declared.Framed.TheVariants.{Written, Unfit, NotEnded, TooSmall}

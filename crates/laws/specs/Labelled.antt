@@ -1,7 +1,6 @@
 -- Laws: what is found bears its label: a number, and the columns that it may be told with.
-use Rattle.std.specs.Prelude.{ℕ, ◌≤◌, Bool, true, false, ◌≡◌}
+use Rattle.std.specs.Prelude.{ℕ, ◌≤◌, Bool, true, false, ◌≡◌, if◌then◌else◌}
 use native.Mathlib.Omega.{arith}
-use Rattle.laws.specs.Choice.{if◌then◌else◌}
 use Rattle.laws.specs.Finding.{Finding, fine, broken}
 use Rattle.laws.specs.First.{not_broken}
 

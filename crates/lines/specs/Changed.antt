@@ -1,13 +1,12 @@
 -- Laws: the lines of a file with some of their characters changed: no line moves,
 -- and files whose changed lines make the same bytes have the same changed lines.
 use Prim.Native.Nat.{ℕ, zero, suc, ◌-◌, ◌<◌}
-use Rattle.std.specs.Prelude.{Bool, true, false, ◌||◌, ◌≡◌, eqb, take, drop, replicate}
+use Rattle.std.specs.Prelude.{Bool, true, false, ◌||◌, ◌≡◌, eqb, take, drop, replicate, if◌then◌else◌}
 use mathlib.Core.List.{List, [], ◌∷◌, ◌++◌, map, map-append, append_assoc}
 use Rattle.std.proofs.Math.Path.{refl, ap}
 use Rattle.std.proofs.Common.{sym, ◌∙◌, arith}
 use Rattle.std.proofs.Math.ListN.{length, length-append}
 use Rattle.std.proofs.Math.Seq.{take-append_seam, drop_at}
-use Rattle.laws.specs.Choice.{if◌then◌else◌}
 use Rattle.lines.specs.Lines.{Line, is_end, text_of, line_feed, end_of, first_line, size_of, lines_from, lines_of, joined}
 use Rattle.lines.specs.Laws.{text_in_front, size_positive, lines_cons, lines_joined}
 use Rattle.lines.specs.HiddenPlaces.{has_no_end, Keeps}

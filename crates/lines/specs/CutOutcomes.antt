@@ -1,8 +1,7 @@
 -- Laws: the four outcomes of cutting a line, and what is known of a line that is taken.
-use Rattle.std.specs.Prelude.{ℕ, ◌+◌, ◌≤◌, ◌<◌, min, Bool, true, false, ◌⊎◌, ◌≡◌, refl, eqb, length}
+use Rattle.std.specs.Prelude.{ℕ, ◌+◌, ◌≤◌, ◌<◌, min, Bool, true, false, ◌⊎◌, ◌≡◌, refl, eqb, length, if◌then◌else◌}
 use Rattle.std.proofs.Common.{inl, inr, sym, arith}
 use borrow.Author.Tests.{eqb-true, eqb-false, eq-eqb, ne_eqb}
-use Rattle.laws.specs.Choice.{if◌then◌else◌}
 use Rattle.laws.specs.Finding.{fine, broken, or_else, value, refused, finding_in}
 use Rattle.laws.specs.Labelled.{Labelled, fine_labelled, broken_labelled, choice_labelled}
 use Rattle.lines.specs.Cutting.{beyond, cutting, length_test, end_test}

@@ -1,6 +1,5 @@
 -- Definitions: cutting a line that is to have n characters and an end.
-use Rattle.std.specs.Prelude.{ℕ, ◌+◌, min, eqb, length}
-use Rattle.laws.specs.Choice.{if◌then◌else◌}
+use Rattle.std.specs.Prelude.{ℕ, ◌+◌, min, eqb, length, if◌then◌else◌}
 use Rattle.laws.specs.Finding.{Finding, fine, broken, Reading, value, refused}
 use Rattle.reason.specs.ReasonNumbers.{number_of}
 use Rattle.lines.specs.Lines.{Line, size_of}

@@ -1,6 +1,5 @@
 -- Definitions: columns that are hidden on the lines of a file, told by places of the file; two files of equal bytes elsewhere; and changes of lines.
-use Rattle.std.specs.Prelude.{ℕ, ◌+◌, ◌-◌, ◌≤◌, Bool, true, false, List, [], ◌∷◌, ◌≡◌, ltb, length, get_or}
-use Rattle.laws.specs.Choice.{if◌then◌else◌}
+use Rattle.std.specs.Prelude.{ℕ, ◌+◌, ◌-◌, ◌≤◌, Bool, true, false, List, [], ◌∷◌, ◌≡◌, ltb, length, get_or, if◌then◌else◌}
 use Rattle.lines.specs.Lines.{Line, size_of, lines_of, is_end}
 
 -- `hides` tells of a line which of its columns are hidden, counted from 1. A place of some lines, counted from 0 over all their characters and ends, is hidden

@@ -1,9 +1,8 @@
 -- Laws: the lines joined are the file, and after a line comes the file from where it ended.
-use Rattle.std.specs.Prelude.{ℕ, zero, suc, ◌-◌, ◌≤◌, ◌<◌, Bool, true, false, ◌||◌, List, [], ◌∷◌, ◌++◌, ◌≡◌, refl, eqb, length, get_or, take, drop}
+use Rattle.std.specs.Prelude.{ℕ, zero, suc, ◌-◌, ◌≤◌, ◌<◌, Bool, true, false, ◌||◌, List, [], ◌∷◌, ◌++◌, ◌≡◌, refl, eqb, length, get_or, take, drop, if◌then◌else◌}
 use Rattle.std.proofs.lemmas.Bool.{false≢true}
 use Rattle.std.proofs.Common.{sym, ap, ◌∙◌, sub-one, arith, eqb-true, length-append, length-take, take-append-drop, get_or-take, take-add}
 use Rattle.std.proofs.Math.Seq.{drop-nil}
-use Rattle.laws.specs.Choice.{if◌then◌else◌}
 use Rattle.lines.specs.Lines.{Line, is_end, text_of, line_feed, end_of, first_line, size_of, lines_from, lines_of, joined}
 
 -- ---- what a line takes stands in front of the bytes

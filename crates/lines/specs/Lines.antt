@@ -1,6 +1,5 @@
 -- Definitions: the lines of a file.
-use Rattle.std.specs.Prelude.{ℕ, zero, suc, ◌+◌, ◌-◌, Bool, ◌||◌, List, [], ◌∷◌, ◌++◌, eqb, length, drop}
-use Rattle.laws.specs.Choice.{if◌then◌else◌}
+use Rattle.std.specs.Prelude.{ℕ, zero, suc, ◌+◌, ◌-◌, Bool, ◌||◌, List, [], ◌∷◌, ◌++◌, eqb, length, drop, if◌then◌else◌}
 
 -- "A line ends at LF, CR, or CR followed at once by LF." LF is 10, CR is 13.
 unfoldable pub is_end : ℕ → Bool

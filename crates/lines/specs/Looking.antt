@@ -1,10 +1,9 @@
 -- Follows the code; need not be believed. Looking for the end of the first line: what was found, as a number;
 -- and the laws of what a line still has at a place, and of whether it is shorter than so many bytes.
-use Rattle.std.specs.Prelude.{ℕ, zero, suc, ◌+◌, ◌≤◌, ◌<◌, Bool, true, false, not, ◌||◌, List, [], ◌∷◌, ◌≡◌, refl, eqb, ltb, length, get_or, drop}
+use Rattle.std.specs.Prelude.{ℕ, zero, suc, ◌+◌, ◌≤◌, ◌<◌, Bool, true, false, not, ◌||◌, List, [], ◌∷◌, ◌≡◌, refl, eqb, ltb, length, get_or, drop, if◌then◌else◌}
 use Rattle.std.proofs.Common.{add-one, arith, lt-ltb, le-ltb, ltb-true, ltb-false, drop_of_length-le}
 use Rattle.std.specs.Int.Bits.{bit_or}
 use Rattle.std.proofs.Math.Seq.{drop-cons}
-use Rattle.laws.specs.Choice.{if◌then◌else◌}
 use Rattle.lines.specs.Lines.{is_end, text_of}
 
 -- What was found, as a number.

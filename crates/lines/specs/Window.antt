@@ -1,10 +1,9 @@
 -- Laws: only the first n + 2 bytes matter to a line that is to have n characters, 292 for 290:
 -- a call that is lent them answers as if it were lent all that remains.
-use Rattle.std.specs.Prelude.{ℕ, zero, suc, ◌+◌, ◌-◌, ◌≤◌, ◌<◌, Bool, true, false, List, [], ◌∷◌, ◌≡◌, refl, leb, length, take, drop}
+use Rattle.std.specs.Prelude.{ℕ, zero, suc, ◌+◌, ◌-◌, ◌≤◌, ◌<◌, Bool, true, false, List, [], ◌∷◌, ◌≡◌, refl, leb, length, take, drop, if◌then◌else◌}
 use Rattle.std.proofs.Common.{inl, inr, sym, ap, ◌∙◌, arith, leb-true, leb-false, length-take, take_all}
 use Rattle.std.proofs.Math.Nat.{sub-zero, zero-sub, suc-sub-suc}
 use Rattle.std.proofs.Math.Seq.{take-nil}
-use Rattle.laws.specs.Choice.{if◌then◌else◌}
 use Rattle.lines.specs.Cutting.{cutting}
 use Rattle.lines.specs.Lines.{is_end, text_of, end_of, first_line}
 use Rattle.lines.specs.CutOutcomes.{too_long}

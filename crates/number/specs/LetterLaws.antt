@@ -1,9 +1,8 @@
 -- Laws: short texts are the same exactly if they are as numbers; and how the code reads them.
-use Rattle.std.specs.Prelude.{ℕ, zero, suc, ◌+◌, ◌-◌, ◌*◌, ◌^◌, ◌≤◌, ◌<◌, List, ◌≡◌, refl, Bool, true, false, ltb, get_or, take}
+use Rattle.std.specs.Prelude.{ℕ, zero, suc, ◌+◌, ◌-◌, ◌*◌, ◌^◌, ◌≤◌, ◌<◌, List, ◌≡◌, refl, Bool, true, false, ltb, get_or, take, if◌then◌else◌}
 use Rattle.std.proofs.Common.{sym, ap, ◌∙◌, add-zero, pow-suc, get_or-take, lt-ltb, le-ltb, ltb-true, ltb-false}
 use Rattle.std.proofs.Math.Nat.{pow-le-pow_right}
 use native.Mathlib.Omega.{arith}
-use Rattle.laws.specs.Choice.{if◌then◌else◌}
 use Rattle.chars.specs.Agree.{Agree}
 use Rattle.chars.specs.Columns.{width_of}
 use Rattle.number.specs.Letters.{letters_from, letters_in}

@@ -1,6 +1,5 @@
 -- Definitions: a short text as a number, so that a text can be held and compared as numbers are.
-use Rattle.std.specs.Prelude.{ℕ, zero, suc, ◌+◌, ◌-◌, ◌*◌, List, ltb, get_or}
-use Rattle.laws.specs.Choice.{if◌then◌else◌}
+use Rattle.std.specs.Prelude.{ℕ, zero, suc, ◌+◌, ◌-◌, ◌*◌, List, ltb, get_or, if◌then◌else◌}
 use Rattle.chars.specs.Columns.{width_of}
 
 -- n characters from a place on, to the base 256, when the characters before them read as v.

@@ -1,11 +1,10 @@
 -- Laws: how a loop over the columns reads a number, that one of n digits is below 10 to the n, and that what was written is read back.
 use Prim.Native.Nat.{ℕ, zero, suc, ◌+◌, ◌-◌, ◌*◌, ◌/◌, ◌%◌, ◌^◌, ◌<◌, ◌≤◌}
-use Rattle.std.specs.Prelude.{◌≡◌, refl, Bool, true, false, ◌||◌, List, ◌⊎◌, eqb, ltb, length, get_or, set, take}
+use Rattle.std.specs.Prelude.{◌≡◌, refl, Bool, true, false, ◌||◌, List, ◌⊎◌, eqb, ltb, length, get_or, set, take, if◌then◌else◌}
 use Rattle.std.proofs.Common.{sym, ap, ◌∙◌, inl, inr, add-zero, pow-suc, lit<, length-set, get_or-set_same, get_or-set_other, get_or-take}
 use Rattle.std.proofs.Math.Nat.{pow-zero, pow-le-pow_right, one-le-pow}
 use native.Mathlib.Omega.{arith}
 use borrow.Author.Tests.{lt-ltb, le-ltb, ne_eqb}
-use Rattle.laws.specs.Choice.{if◌then◌else◌}
 use Rattle.laws.specs.Finding.{Finding, fine, broken, or_else, first_of, Reading, value, refused, finding_in}
 use Rattle.laws.specs.LoopSteps.{left_suc, left_none}
 use Rattle.chars.specs.Characters.{capitals, is_digit}

@@ -1,6 +1,5 @@
 -- Definitions: a number read from a field, and written into one: one rule for all widths.
-use Rattle.std.specs.Prelude.{ℕ, zero, suc, ◌+◌, ◌-◌, ◌*◌, ◌/◌, ◌%◌, List, ◌||◌, eqb, ltb, get_or, set}
-use Rattle.laws.specs.Choice.{if◌then◌else◌}
+use Rattle.std.specs.Prelude.{ℕ, zero, suc, ◌+◌, ◌-◌, ◌*◌, ◌/◌, ◌%◌, List, ◌||◌, eqb, ltb, get_or, set, if◌then◌else◌}
 use Rattle.laws.specs.Finding.{Reading, value, refused}
 use Rattle.reason.specs.ReasonNumbers.{number_of}
 use Rattle.chars.specs.Characters.{is_digit}

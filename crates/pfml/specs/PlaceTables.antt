@@ -1,6 +1,5 @@
 -- Follows the code; need not be believed. The place rules as tables, phase by phase, and that they say what the rules say.
-use Rattle.std.specs.Prelude.{Bool, true, false, ◌≡◌}
-use Rattle.laws.specs.Choice.{if◌then◌else◌}
+use Rattle.std.specs.Prelude.{Bool, true, false, ◌≡◌, if◌then◌else◌}
 use Rattle.laws.specs.Finding.{Finding, fine, broken}
 use Rattle.edits.specs.Edit.{first_broken}
 use Rattle.edits.specs.EditLaws.{first_cons, first_none}

@@ -1,8 +1,7 @@
 -- Laws: each row of the list is fit: its columns lie in the record, its class has a number, and it is as wide as its class asks.
-use Rattle.std.specs.Prelude.{ℕ, ◌≤◌, ◌<◌, Bool, true, false, ◌&&◌, ◌≡◌, T, eqb, leb, ltb, get_or}
+use Rattle.std.specs.Prelude.{ℕ, ◌≤◌, ◌<◌, Bool, true, false, ◌&&◌, ◌≡◌, T, eqb, leb, ltb, get_or, if◌then◌else◌}
 use mathlib.Core.List.{List, [], ◌∷◌}
 use Rattle.std.proofs.Common.{sym, ap, ◌∙◌, leb-true, ltb-true, eqb-true}
-use Rattle.laws.specs.Choice.{if◌then◌else◌}
 use Rattle.laws.specs.ChoiceLaws.{both_hold, within}
 use Rattle.laws.specs.Table.{every, at}
 use Rattle.field.specs.Classes.{class_number, class_of}

@@ -1,6 +1,5 @@
 -- Definitions: the map of columns, and the field that a column lies in. Place n of the five records' 1,450 columns is column n % 290 + 1 of record n / 290.
-use Rattle.std.specs.Prelude.{ℕ, suc, ◌+◌, ◌/◌, ◌%◌, Bool, ◌&&◌, List, [], ◌∷◌, ◌++◌, leb, ltb, get_or, replicate}
-use Rattle.laws.specs.Choice.{if◌then◌else◌}
+use Rattle.std.specs.Prelude.{ℕ, suc, ◌+◌, ◌/◌, ◌%◌, Bool, ◌&&◌, List, [], ◌∷◌, ◌++◌, leb, ltb, get_or, replicate, if◌then◌else◌}
 use Rattle.edits.specs.FieldRow.{first_in, last_in, width_in}
 use Rattle.pfml_fields.specs.Fields.{rows_of, fields, first_field}
 use Rattle.pfml_fields.specs.declared.FieldAt.{FieldAt}

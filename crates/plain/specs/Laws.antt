@@ -1,8 +1,7 @@
 -- Laws: what may be relied on where a record is plain: it passes as an employee of the open employer, and its identity number and its size are small.
-use Rattle.std.specs.Prelude.{ℕ, ◌+◌, ◌≤◌, ◌<◌, Bool, true, false, not, ◌&&◌, ◌||◌, List, ◌≡◌, refl, eqb, leb, ltb, length, drop}
+use Rattle.std.specs.Prelude.{ℕ, ◌+◌, ◌≤◌, ◌<◌, Bool, true, false, not, ◌&&◌, ◌||◌, List, ◌≡◌, refl, eqb, leb, ltb, length, drop, if◌then◌else◌}
 use Rattle.std.proofs.lemmas.Bool.{false≢true, eqb-false, not-true}
 use Rattle.std.proofs.Common.{sym, ap, subst, ◌∙◌, arith, eq-eqb, leb-true}
-use Rattle.laws.specs.Choice.{if◌then◌else◌}
 use Rattle.laws.specs.ChoiceLaws.{both_hold}
 use Rattle.laws.specs.Finding.{Finding, fine, broken, value}
 use Rattle.lines.specs.MadeLines.{text_before_end, cut_before_end}

@@ -1,7 +1,6 @@
 -- Follows the code; need not be believed. An S record that one sweep over its columns finds good: each column lies between those of two records, the
 -- lowest and the highest that this employer and A's quarter allow. What the sweep does not find good is only looked at more closely.
-use Rattle.std.specs.Prelude.{ℕ, zero, suc, ◌+◌, ◌-◌, ◌*◌, ◌%◌, Bool, true, not, ◌&&◌, List, eqb, leb, length, get_or, drop}
-use Rattle.laws.specs.Choice.{if◌then◌else◌}
+use Rattle.std.specs.Prelude.{ℕ, zero, suc, ◌+◌, ◌-◌, ◌*◌, ◌%◌, Bool, true, not, ◌&&◌, List, eqb, leb, length, get_or, drop, if◌then◌else◌}
 use Rattle.laws.specs.Spelling.{bytes}
 use Rattle.lines.specs.Lines.{end_of}
 use Rattle.calendar.specs.Quarters.{is_allowed}

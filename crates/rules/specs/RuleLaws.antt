@@ -1,8 +1,7 @@
 -- Laws: the rules of numbers, edit by edit: the class test, then the rule of the value.
-use Rattle.std.specs.Prelude.{ℕ, ◌-◌, ◌<◌, ◌≤◌, ◌≡◌, refl, Bool, true, false, List, leb}
+use Rattle.std.specs.Prelude.{ℕ, ◌-◌, ◌<◌, ◌≤◌, ◌≡◌, refl, Bool, true, false, List, leb, if◌then◌else◌}
 use Rattle.std.proofs.Common.{sym, ap, ◌∙◌, arith}
 use Rattle.std.proofs.Math.Bool.{not}
-use Rattle.laws.specs.Choice.{if◌then◌else◌}
 use Rattle.laws.specs.Finding.{fine, or_else, Reading, value, refused, finding_in}
 use Rattle.laws.specs.Labelled.{Labelled}
 use Rattle.calendar.specs.Quarters.{is_filing_year, is_quarter_month}

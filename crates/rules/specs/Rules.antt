@@ -1,6 +1,5 @@
 -- Definitions: the rules of fields that read as numbers.
-use Rattle.std.specs.Prelude.{ℕ, ◌/◌, ◌%◌, Bool, not, ◌&&◌, ◌||◌, List, eqb, leb}
-use Rattle.laws.specs.Choice.{if◌then◌else◌}
+use Rattle.std.specs.Prelude.{ℕ, ◌/◌, ◌%◌, Bool, not, ◌&&◌, ◌||◌, List, eqb, leb, if◌then◌else◌}
 use Rattle.laws.specs.Finding.{Reading, value, refused}
 use Rattle.calendar.specs.Quarters.{is_filing_year, is_quarter_month}
 use Rattle.number.specs.Numbers.{number_in}

@@ -1,7 +1,6 @@
 -- Definitions: what one record makes of each thing that the lines after it are judged by.
 -- The meaning of a file takes these steps record by record, and so does the walk.
-use Rattle.std.specs.Prelude.{ℕ, ◌+◌, false, List, [], ◌∷◌, ◌++◌, eqb}
-use Rattle.laws.specs.Choice.{if◌then◌else◌}
+use Rattle.std.specs.Prelude.{ℕ, ◌+◌, false, List, [], ◌∷◌, ◌++◌, eqb, if◌then◌else◌}
 use Rattle.calendar.specs.declared.Quarter.{Quarter}
 use Rattle.edits.specs.Counted.{open_with, totals_with}
 use Rattle.edits.specs.declared.Open.{Open}

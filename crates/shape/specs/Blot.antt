@@ -1,14 +1,13 @@
 -- Laws: a line with its hidden columns blotted out is a line of the same record and shows all other columns, in every format;
 -- two lines with equal blots are alike.
 use Prim.Native.Nat.{ℕ, zero, suc, ◌+◌, ◌≤◌, ◌<◌}
-use Rattle.std.specs.Prelude.{Bool, ◌&&◌, ◌≡◌, eqb, length, get_or, take}
+use Rattle.std.specs.Prelude.{Bool, ◌&&◌, ◌≡◌, eqb, length, get_or, take, if◌then◌else◌}
 use Rattle.std.proofs.Math.Bool.{true, false}
 use mathlib.Core.List.{List, [], ◌∷◌}
 use Rattle.std.proofs.Math.Path.{refl, ap₂}
 use Rattle.std.proofs.Common.{sym, ap, ◌∙◌, length-take, ext_get_or, get_or-take, eqb-true}
 use Rattle.std.proofs.Math.Nat.{add-zero}
 use native.Mathlib.Omega.{arith}
-use Rattle.laws.specs.Choice.{if◌then◌else◌}
 use Rattle.laws.specs.ChoiceLaws.{both_hold}
 use Rattle.lines.specs.Changed.{blank_no_end}
 use Rattle.lines.specs.MadeLines.{no_end_at}

@@ -1,6 +1,5 @@
 -- Definitions: the records of employees, and the columns that are hidden on them, whatever else a line breaks and wherever it stands (demand 3).
-use Rattle.std.specs.Prelude.{ℕ, ◌+◌, Bool, true, false, ◌&&◌, List, [], ◌∷◌, ◌≡◌, eqb, length, get_or}
-use Rattle.laws.specs.Choice.{if◌then◌else◌}
+use Rattle.std.specs.Prelude.{ℕ, ◌+◌, Bool, true, false, ◌&&◌, List, [], ◌∷◌, ◌≡◌, eqb, length, get_or, if◌then◌else◌}
 use Rattle.laws.specs.Finding.{fine}
 use Rattle.lines.specs.Lines.{Line}
 use Rattle.chars.specs.Characters.{is_permitted, capitals}

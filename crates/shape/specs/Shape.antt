@@ -1,6 +1,5 @@
 -- Definitions: a format as the machine knows it, and the verdict on a line by it.
-use Rattle.std.specs.Prelude.{ℕ, Bool, true, false, ◌&&◌, List, ◌∷◌}
-use Rattle.laws.specs.Choice.{if◌then◌else◌}
+use Rattle.std.specs.Prelude.{ℕ, Bool, true, false, ◌&&◌, List, ◌∷◌, if◌then◌else◌}
 use Rattle.laws.specs.Finding.{Finding, fine, broken}
 use Rattle.lines.specs.Cutting.{beyond, length_test, end_test}
 use Rattle.lines.specs.Lines.{Line, size_of}

@@ -1,7 +1,6 @@
 -- Definitions: 72, "state unfit", exactly by its list.
-use Rattle.std.specs.Prelude.{ℕ, ◌*◌, Bool, false, not, ◌&&◌, ◌||◌, ltb, eqb}
+use Rattle.std.specs.Prelude.{ℕ, ◌*◌, Bool, false, not, ◌&&◌, ◌||◌, ltb, eqb, if◌then◌else◌}
 use Rattle.calendar.specs.declared.Quarter.{Quarter}
-use Rattle.laws.specs.Choice.{if◌then◌else◌}
 use Rattle.edits.specs.Formats.{is_known, may_open}
 use Rattle.edits.specs.declared.Open.{Open}
 use Rattle.edits.specs.declared.Opening.{Opening}

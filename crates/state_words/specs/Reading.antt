@@ -1,9 +1,8 @@
 -- Laws: what words that are read tell, and when they tell nothing.
-use Rattle.std.specs.Prelude.{ℕ, ◌≤◌, ◌<◌, Bool, true, false, List, ◌≡◌, refl, ltb, length}
+use Rattle.std.specs.Prelude.{ℕ, ◌≤◌, ◌<◌, Bool, true, false, List, ◌≡◌, refl, ltb, length, if◌then◌else◌}
 use Rattle.std.proofs.Math.Option.{Option, none, some}
 use Rattle.std.proofs.Common.{arith, lt-ltb, le-ltb}
 use Rattle.std.proofs.Math.ListN.{get_or-eq_default}
-use Rattle.laws.specs.Choice.{if◌then◌else◌}
 use Rattle.reason.specs.ReasonNumbers.{number_of, reason_of, is_listed, notice}
 use Rattle.reason.specs.Once.{listed_number}
 use Rattle.state.specs.Walks.{Standing, refused}

@@ -1,7 +1,6 @@
 -- Definitions: the state of a walk as 27 words of 64 bits that a caller lends, and the walk that any words tell.
-use Rattle.std.specs.Prelude.{ℕ, ◌≤◌, min, Bool, not, List, [], ◌∷◌, ◌++◌, ltb, eqb, length, get_or, drop}
+use Rattle.std.specs.Prelude.{ℕ, ◌≤◌, min, Bool, not, List, [], ◌∷◌, ◌++◌, ltb, eqb, length, get_or, drop, if◌then◌else◌}
 use Rattle.std.proofs.Math.Option.{Option, none, some}
-use Rattle.laws.specs.Choice.{if◌then◌else◌}
 use Rattle.reason.specs.ReasonNumbers.{is_listed, notice}
 use Rattle.edits.specs.Formats.{format_of, format_number}
 use Rattle.edits.specs.declared.Open.{Open}

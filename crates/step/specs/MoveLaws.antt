@@ -1,8 +1,7 @@
 -- Laws: what a call answers, by cases: the state is unfit, or the answer rests on where the walk stands.
-use Rattle.std.specs.Prelude.{Bool, ◌≡◌}
+use Rattle.std.specs.Prelude.{Bool, ◌≡◌, if◌then◌else◌}
 use Rattle.std.proofs.Math.Bool.{true, false}
 use Rattle.std.proofs.Common.{ap}
-use Rattle.laws.specs.Choice.{if◌then◌else◌}
 use Rattle.lines.specs.Lines.{Line}
 use Rattle.tables.specs.Room.{Room}
 use Rattle.edits.specs.Formats.{may_open}

@@ -1,6 +1,5 @@
 -- Definitions: what a call answers and what it writes, decided before any table is touched.
-use Rattle.std.specs.Prelude.{ℕ, ◌+◌, ◌-◌, Bool, leb, eqb}
-use Rattle.laws.specs.Choice.{if◌then◌else◌}
+use Rattle.std.specs.Prelude.{ℕ, ◌+◌, ◌-◌, Bool, leb, eqb, if◌then◌else◌}
 use Rattle.laws.specs.Finding.{Finding, fine, broken}
 use Rattle.reason.specs.ReasonNumbers.{Notice, notice, notice_of}
 use Rattle.calendar.specs.declared.Quarter.{Quarter}

@@ -1,7 +1,6 @@
 -- Laws: what is looked up for a line is what it asks.
-use Rattle.std.specs.Prelude.{ℕ, ◌<◌, Bool, true, false, ◌&&◌, List, ◌≡◌, refl, take}
+use Rattle.std.specs.Prelude.{ℕ, ◌<◌, Bool, true, false, ◌&&◌, List, ◌≡◌, refl, take, if◌then◌else◌}
 use Rattle.std.proofs.Common.{ap, ◌∙◌, arith}
-use Rattle.laws.specs.Choice.{if◌then◌else◌}
 use Rattle.lines.specs.Lines.{first_line}
 use Rattle.chars.specs.Characters.{capitals}
 use Rattle.edits.specs.declared.Seen.{Seen}

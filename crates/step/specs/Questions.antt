@@ -1,6 +1,5 @@
 -- Follows the code; need not be believed. What a line asks of the tables, and how far they are looked at: where it asks nothing, not at all.
-use Rattle.std.specs.Prelude.{ℕ, Bool, List, take}
-use Rattle.laws.specs.Choice.{if◌then◌else◌}
+use Rattle.std.specs.Prelude.{ℕ, Bool, List, take, if◌then◌else◌}
 use Rattle.chars.specs.Characters.{capitals}
 use Rattle.edits.specs.declared.format.Format.{Format}
 use Rattle.shape.specs.Shape.{fein_asked, id_asked}

@@ -1,6 +1,5 @@
 -- Definitions: state, ZIP and extension.
-use Rattle.std.specs.Prelude.{ℕ, ◌+◌, ◌-◌, true, List, get_or}
-use Rattle.laws.specs.Choice.{if◌then◌else◌}
+use Rattle.std.specs.Prelude.{ℕ, ◌+◌, ◌-◌, true, List, get_or, if◌then◌else◌}
 use Rattle.laws.specs.Finding.{Finding, fine, broken}
 use Rattle.laws.specs.Spelling.{bytes}
 use Rattle.codes.specs.declared.Region.{Region}

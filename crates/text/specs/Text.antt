@@ -1,6 +1,5 @@
 -- Definitions: fields of text.
-use Rattle.std.specs.Prelude.{ℕ, ◌-◌, Bool, true, ◌&&◌, List, [], ◌∷◌, eqb, get_or, drop}
-use Rattle.laws.specs.Choice.{if◌then◌else◌}
+use Rattle.std.specs.Prelude.{ℕ, ◌-◌, Bool, true, ◌&&◌, List, [], ◌∷◌, eqb, get_or, drop, if◌then◌else◌}
 use Rattle.laws.specs.Finding.{Finding, fine, broken}
 use Rattle.chars.specs.Characters.{is_blank, is_digit, is_letter}
 use Rattle.chars.specs.Columns.{every_column, is_fine, unless}

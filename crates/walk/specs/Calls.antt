@@ -1,6 +1,5 @@
 -- Definitions: the calls of demands 2 and 3: opening, line calls while any byte remains and none is refused, then one end call.
-use Rattle.std.specs.Prelude.{ℕ, zero, suc, ◌+◌, ◌-◌, ◌≤◌, List, [], ◌∷◌, ◌⊎◌, eqb, length, take}
-use Rattle.laws.specs.Choice.{if◌then◌else◌}
+use Rattle.std.specs.Prelude.{ℕ, zero, suc, ◌+◌, ◌-◌, ◌≤◌, List, [], ◌∷◌, ◌⊎◌, eqb, length, take, if◌then◌else◌}
 use Rattle.lines.specs.Lines.{first_line, lines_of}
 use Rattle.reason.specs.ReasonNumbers.{Notice}
 use Rattle.edits.specs.Formats.{may_open}

@@ -1,8 +1,7 @@
 -- Laws: records that were taken are good, and stay so with one record more: nothing exceeds its bound, so no sum wraps and no state becomes unfit.
-use Rattle.std.specs.Prelude.{ℕ, ◌+◌, ◌≤◌, ◌<◌, ◌*◌, Bool, true, false, List, [], ◌∷◌, ◌++◌, ◌⊎◌, ◌≡◌, refl, eqb, leb, length}
+use Rattle.std.specs.Prelude.{ℕ, ◌+◌, ◌≤◌, ◌<◌, ◌*◌, Bool, true, false, List, [], ◌∷◌, ◌++◌, ◌⊎◌, ◌≡◌, refl, eqb, leb, length, if◌then◌else◌}
 use Rattle.std.proofs.lemmas.Bool.{false≢true}
 use Rattle.std.proofs.Common.{inl, inr, sym, ◌∙◌, arith, length-append, eq-eqb, leb-false}
-use Rattle.laws.specs.Choice.{if◌then◌else◌}
 use Rattle.calendar.specs.declared.Quarter.{Quarter}
 use Rattle.edits.specs.declared.Opening.{Opening}
 use Rattle.edits.specs.declared.Phase.TheVariants.{AfterA, EOpen, AfterT, BeforeA, AfterF}

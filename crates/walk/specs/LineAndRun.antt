@@ -1,6 +1,5 @@
 -- Follows the code; need not be believed. A line and the plain S records right after it, taken at once.
-use Rattle.std.specs.Prelude.{ℕ, ◌+◌, List, length, eqb}
-use Rattle.laws.specs.Choice.{if◌then◌else◌}
+use Rattle.std.specs.Prelude.{ℕ, ◌+◌, List, length, eqb, if◌then◌else◌}
 use Rattle.lines.specs.Lines.{first_line}
 use Rattle.tables.specs.Room.{Tables, tables}
 use Rattle.tables.specs.declared.Employer.{Employer}

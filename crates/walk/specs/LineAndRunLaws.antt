@@ -1,8 +1,7 @@
 -- Laws: a line and the plain S records after it are calls, one for each line.
-use Rattle.std.specs.Prelude.{ℕ, ◌+◌, ◌≤◌, ◌<◌, Bool, true, false, List, ◌≡◌, refl, eqb, length, drop}
+use Rattle.std.specs.Prelude.{ℕ, ◌+◌, ◌≤◌, ◌<◌, Bool, true, false, List, ◌≡◌, refl, eqb, length, drop, if◌then◌else◌}
 use Rattle.std.proofs.Common.{sym, ap, ◌∙◌, le_refl, arith, length-drop, drop-drop, eqb-true}
 use Rattle.std.proofs.lemmas.Bool.{eqb-false}
-use Rattle.laws.specs.Choice.{if◌then◌else◌}
 use Rattle.lines.specs.Lines.{first_line}
 use Rattle.record.specs.ShapeOf.{shape_of}
 use Rattle.tables.specs.Room.{Tables, tables}

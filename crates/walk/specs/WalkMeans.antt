@@ -1,11 +1,10 @@
 -- Laws: walk_means: for every file, quarter, table lengths and lending, the calls answer and leave what the file means.
 use Prim.Native.Nat.{ℕ, zero, suc, ◌+◌, ◌-◌}
-use Rattle.std.specs.Prelude.{Bool, true, false, ◌≡◌, refl, eqb, length, take}
+use Rattle.std.specs.Prelude.{Bool, true, false, ◌≡◌, refl, eqb, length, take, if◌then◌else◌}
 use mathlib.Core.List.{List, [], ◌∷◌}
 use Rattle.std.proofs.Common.{sym, subst, ◌∙◌, arith, ne_eqb}
 use Rattle.std.proofs.Math.Path.{ap}
 use Rattle.std.proofs.lemmas.List.{length-replicate}
-use Rattle.laws.specs.Choice.{if◌then◌else◌}
 use Rattle.laws.specs.Finding.{Finding}
 use Rattle.reason.specs.ReasonNumbers.{Notice, notice}
 use Rattle.lines.specs.Laws.{from_nil, from_skip, from_line}

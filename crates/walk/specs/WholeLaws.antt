@@ -1,10 +1,9 @@
 -- Laws: the calls of a loop over a whole file: each is lent all that remains.
-use Rattle.std.specs.Prelude.{ℕ, zero, suc, ◌+◌, ◌-◌, ◌≤◌, ◌<◌, Bool, true, false, ◌≡◌, eqb, length, take, drop}
+use Rattle.std.specs.Prelude.{ℕ, zero, suc, ◌+◌, ◌-◌, ◌≤◌, ◌<◌, Bool, true, false, ◌≡◌, eqb, length, take, drop, if◌then◌else◌}
 use mathlib.Core.List.{List, [], ◌∷◌}
 use Rattle.std.proofs.Common.{inr, ◌∙◌, le_refl, arith, length-drop, drop_of_length-le, take_all, drop-drop, eq-eqb, ne_eqb}
 use Rattle.std.proofs.Math.Path.{refl, sym, ap}
 use Rattle.std.proofs.lemmas.Bool.{eqb-false}
-use Rattle.laws.specs.Choice.{if◌then◌else◌}
 use Rattle.laws.specs.Lists.{behind}
 use Rattle.chars.specs.Characters.{capitals}
 use Rattle.lines.specs.Laws.{size_within}

@@ -1,6 +1,5 @@
 -- Definitions: the six records of the amended withholding file, by their letters.
-use Rattle.std.specs.Prelude.{ℕ, ◌+◌, Bool, true, false, List, eqb, get_or}
-use Rattle.laws.specs.Choice.{if◌then◌else◌}
+use Rattle.std.specs.Prelude.{ℕ, ◌+◌, Bool, true, false, List, eqb, get_or, if◌then◌else◌}
 use Rattle.edits.specs.FieldRow.{first_in, last_in}
 use Rattle.edits.specs.Further.{none_further}
 use Rattle.edits.specs.declared.FurtherLandmarks.{FurtherLandmarks}

@@ -1,6 +1,5 @@
 -- Definitions: the T and the F record of the amended withholding file that are written.
-use Rattle.std.specs.Prelude.{ℕ, ◌+◌, ◌-◌, List, [], ◌∷◌, ◌++◌, leb}
-use Rattle.laws.specs.Choice.{if◌then◌else◌}
+use Rattle.std.specs.Prelude.{ℕ, ◌+◌, ◌-◌, List, [], ◌∷◌, ◌++◌, leb, if◌then◌else◌}
 use Rattle.laws.specs.Spelling.{bytes}
 use Rattle.edits.specs.FieldRow.{first_in, last_in}
 use Rattle.edits.specs.declared.Open.{Open}

@@ -1,6 +1,5 @@
 -- Definitions: "Writing T or F into a lent slice": what a call answers, and what is then in the slice.
-use Rattle.std.specs.Prelude.{ℕ, ◌^◌, Bool, true, false, not, ◌&&◌, List, eqb, leb, length}
-use Rattle.laws.specs.Choice.{if◌then◌else◌}
+use Rattle.std.specs.Prelude.{ℕ, ◌^◌, Bool, true, false, not, ◌&&◌, List, eqb, leb, length, if◌then◌else◌}
 use Rattle.reason.specs.ReasonNumbers.{Notice, notice, notice_of}
 use Rattle.edits.specs.Formats.{is_pfml}
 use Rattle.edits.specs.declared.Open.{Open}
