@@ -113,6 +113,7 @@ pub fn is_unfit(st: State) -> bool
 
 // The refusals in order: `long` says that the slice has its length, `next` that the record may come
 // next, `none` that there is none to total, `large` that the sum is too large.
+#[tactic(auto, unfolding(crate::specs::Writing::refusal_of))]
 pub fn answer(unfit: bool, long: bool, next: bool, none: bool, large: bool) -> Wrote
     ensures { notice_in result ≡ notice (refusal_of unfit long next none large) 0 0 }
 {
