@@ -1,5 +1,5 @@
 #!/usr/bin/env python3
-"""Times the program for amended withholding files, edition 2024, beside the paid leave program on S records that go line by line.
+"""Times the programs for amended withholding files, editions 2024 and 2020, beside the paid leave program on S records that go line by line.
 
     bench/wham.py [--runs N] [--scratch FOLDER]
 
@@ -42,26 +42,31 @@ def employee(identity, original, correct):
                   (215, "12345678900"))
 
 
-def total(count, original, correct):
-    """T, with the original total as the payments."""
+def explanation(fein):
+    return record((1, f"B2024{fein:09}WHAM"), (19, "TAX OF MARCH CORRECTED"), (265, "12345678900"))
+
+
+def total(count, original, correct, with_b):
+    """T, with the original total as the payments and the correct one as that of all employees; where returns have a B it is that of the S records too."""
     due = correct - original
-    return record((1, f"T{count:07}WHAM"), (112, f"{original:011}"), (123, f"{due:014}" if due >= 0 else f"-{-due:013}"), (175, f"{original:014}"),
-                  (213, f"{correct:014}"))
+    return record((1, f"T{count:07}WHAM"), (112, f"{original:011}"), (123, f"{due:014}" if due >= 0 else f"-{-due:013}"),
+                  (175, f"{correct if with_b else original:014}"), (213, f"{correct:014}"))
 
 
 def final(count, employers, correct):
     return record((1, f"F{count:010}{employers:010}WHAM"), (41, f"{correct:015}"))
 
 
-def wham_file(employers, employees):
+def wham_file(employers, employees, with_b=False):
+    """A file of edition 2024; with a B in each return of edition 2020."""
     drawn = random.Random(7)
     lines, all_correct = [HEADER, transmitter()], 0
     for k in range(employers):
         originals = [drawn.randrange(10 ** 6) for _ in range(employees)]
         corrects = [drawn.randrange(10 ** 6) for _ in range(employees)]
-        lines.append(employer(100000000 + k))
+        lines += [explanation(100000000 + k)] * with_b + [employer(100000000 + k)]
         lines += [employee(drawn.randrange(1, 899999999), o, c) for o, c in zip(originals, corrects)]
-        lines.append(total(employees, sum(originals), sum(corrects)))
+        lines.append(total(employees, sum(originals), sum(corrects), with_b))
         all_correct += sum(corrects)
     lines.append(final(employers * employees, employers, all_correct))
     return b"".join(lines)
@@ -97,11 +102,12 @@ def main():
     parser.add_argument("--scratch", default=tempfile.gettempdir())
     arguments = parser.parse_args()
     run.build()
-    wham, paid_leave = run.proved("acknowledge_wham_2024"), run.proved("acknowledge")
+    of_2024, of_2020, paid_leave = (run.proved(name) for name in ("acknowledge_wham_2024", "acknowledge_wham_2020", "acknowledge"))
     print("| file | employers | MB | lines | ms | ns/line |\n| --- | --- | --- | --- | --- | --- |")
     for employers, employees in SIZES:
         capitals, small = paid_leave_files(employers, employees)
-        row("amended withholding", employers, employees, wham, wham_file(employers, employees), arguments)
+        row("amended withholding, 2024", employers, employees, of_2024, wham_file(employers, employees), arguments)
+        row("amended withholding, 2020", employers, employees, of_2020, wham_file(employers, employees, with_b=True), arguments)
         row("paid leave, S records with a small s", employers, employees, paid_leave, small, arguments)
         row("paid leave", employers, employees, paid_leave, capitals, arguments)
 

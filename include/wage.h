@@ -12,7 +12,7 @@
  *   - it is aligned as its type is in C: 8 bytes for uint64_t and wage_employer, 4 for uint32_t,
  *     1 for bytes;
  *   - no two of the areas lent to one call overlap, one that is only read included;
- *   - the thread has WAGE_STACK_BYTES of stack: wage_whole needs the most of them, 37,000 as an
+ *   - the thread has WAGE_STACK_BYTES of stack: wage_whole needs the most of them, 37,400 as an
  *     older kit built it, for one table of fixed size, the other calls less than 4,096. No call is
  *     recursive, and none takes stack by the length of what it is lent.
  * With length 0 a pointer is not followed, and may be null. The library has no memory of its
@@ -54,21 +54,23 @@ typedef struct wage_employer {
 enum {
     WAGE_FORMAT_PFML = 0,      /* the paid leave wage file, records of 290 characters */
     WAGE_FORMAT_WHAM_2024 = 1, /* the amended withholding file, edition 2024, of 275 */
+    WAGE_FORMAT_WHAM_2020 = 2, /* the amended withholding file, edition 2020, of 275 */
     WAGE_FORMAT_NONE = 255
 };
 
 /* Every call but wage_abi_version, wage_field_text and wage_field_first returns a number: 0 if
  * all is well, else that of the refusal.
  *
- *   1 to 65, 91  the file is refused: docs/REASONS.md has every number
- *   70           year and month are no last closed quarter
- *   71           a line or the end after acceptance; nothing changed
- *   72           the state is unfit: words that tell no walk, a format that is none, numbers that
- *                no walk has, or more in use than the tables lent hold; nothing changed
- *   73           the format's number names no format
- *   80 to 83     wage_write_t, wage_write_f, wage_wham_write_t, wage_wham_write_f: below
- *   84, 85       wage_build_a, wage_build_e, wage_build_s: below
- *   87, 88       wage_frames: below */
+ *   1 to 65, 91, 100 to 104
+ *             the file is refused: docs/REASONS.md has every number
+ *   70        year and month are no last closed quarter
+ *   71        a line or the end after acceptance; nothing changed
+ *   72        the state is unfit: words that tell no walk, a format that is none, numbers that no
+ *             walk has, or more in use than the tables lent hold; nothing changed
+ *   73        the format's number names no format
+ *   80 to 83  wage_write_t, wage_write_f, wage_wham_write_t, wage_wham_write_f: below
+ *   84, 85    wage_build_a, wage_build_e, wage_build_s: below
+ *   87, 88    wage_frames: below */
 enum {
     WAGE_FINE = 0,
     WAGE_BAD_QUARTER = 70,
@@ -104,18 +106,23 @@ enum {
  * A call reads any words. Fewer than 27, a standing above 6, or a refusal of a number that is
  * not in the list above or in docs/REASONS.md tell no walk, and the call answers 72; so it does
  * where FORMAT names no format, unless the walk is refused with 70 or 73, and where a walk whose
- * format is named is refused with 73. S_FOLLOW and NOTED
- * count as 1 unless they are 0; LINE and LINES above 4,294,967,295 and COLUMN above 65,535 count
- * as these. A call of the walk then writes the state that it leaves, all 27 words; a line or end
- * call that answers 70, 71, 72 or 73 writes none.
+ * format is named is refused with 73, or with another number that its format does not give.
+ * S_FOLLOW and NOTED count as 1 unless they are 0; LINE and LINES above 4,294,967,295 and COLUMN
+ * above 65,535 count as these. A call of the walk then writes the state that it leaves, all 27
+ * words; a line or end call that answers 70, 71, 72 or 73 writes none.
  *
  * PFML uses none of the words 18 to 26: a walk over it has zeros there, and 72 compares none of
- * them. WHAM 2024 uses OPEN_SECOND, FILE_SECOND (both compared), the two words of the account,
- * and FILE_OTHERS; it has zeros in the others, and in IDS_USED. Whatever a caller puts there: an
- * opening and a refusal set all of them to zero; an A, E, T or F record sets the open E's to
- * zero, or to what E says, and leaves the file's; an S record adds to the second sums, an R
- * record to FILE_OTHERS; the end of an accepted file and a refusal that is answered again leave
- * all of them. */
+ * them. WHAM uses OPEN_SECOND, FILE_SECOND (both compared), the two words of the account, and
+ * FILE_OTHERS, and edition 2020 also OPEN_NOTED and FILE_NOTES; it has zeros in the others, and
+ * in IDS_USED. Whatever a caller puts there: an opening and a refusal set all of them to zero; an
+ * A, E, T or F record sets the open E's to zero, or to what E says, and leaves the file's; an S
+ * record adds to the second sums, an R record to FILE_OTHERS; the end of an accepted file and a
+ * refusal that is answered again leave all of them.
+ *
+ * In WHAM 2020 a return may begin with its B records. A B record adds to FILE_NOTES, sets
+ * OPEN_NOTED to 1, and OPEN_FEIN and the account to its own: so with no E open they are those of
+ * the return's first B, and 0 where it has none; with an E open B has to agree with it, and they
+ * stay. An E record leaves OPEN_NOTED as it is, where in every other format it sets it to 0. */
 enum {
     /* 0 before A, 1 after A, 2 E open, 3 after T, 4 after F, 5 accepted, 6 refused */
     WAGE_STANDING = 0,
@@ -127,7 +134,7 @@ enum {
     WAGE_HELD_MONTH = 6,
     WAGE_FILED_YEAR = 7,         /* A's quarter; in WHAM A's year, and the first E's month */
     WAGE_FILED_MONTH = 8,
-    WAGE_OPEN_FEIN = 9,          /* the open E: its FEIN, */
+    WAGE_OPEN_FEIN = 9,          /* the open E: its FEIN (in WHAM 2020 also a B's: above), */
     WAGE_OPEN_S_FOLLOW = 10,     /* its flag that S records follow, */
     WAGE_OPEN_COUNT = 11,        /* the S records under it */
     WAGE_OPEN_CENTS = 12,        /* and their wages; in WHAM the correct tax, S 203-214 */
@@ -139,23 +146,23 @@ enum {
     WAGE_OPEN_SECOND = 18,       /* the open E: its second sum, in WHAM the original tax, */
     WAGE_OPEN_OTHERS = 19,       /* its other records, */
     WAGE_OPEN_NEAREST = 20,      /* the nearest number, */
-    WAGE_OPEN_NOTED = 21,        /* the flag that a note was seen, */
+    WAGE_OPEN_NOTED = 21,        /* the flag that a note was seen, in WHAM 2020 the return's B, */
     WAGE_OPEN_ACCOUNT_HEAD = 22, /* and its account: 6 and 5 characters to the base 256 */
     WAGE_OPEN_ACCOUNT_TAIL = 23,
     WAGE_FILE_SECOND = 24,       /* the file's second sum, */
     WAGE_FILE_OTHERS = 25,       /* its other records, in WHAM R, */
-    WAGE_FILE_NOTES = 26,        /* and its notes */
+    WAGE_FILE_NOTES = 26,        /* and its notes, in WHAM 2020 B */
     WAGE_STATE_WORDS = 27
 };
 
 /* The tables. `ids` has room for the identity numbers under one employer (a zero one takes
  * none; in WHAM no number is kept, and length 0 is enough), `list` for the employers of the
- * file: at most 65,536 are taken. No room for one more is
- * refusal 62 or 63. A call may be lent tables of another length than the call before, as long as
- * they hold what is in use (else 72); their content is the caller's to keep. An E record sets all
- * six numbers of its entry, count and cents to zero; T sets these two. A refusal by an edit (1
- * to 65, 91) zeroes every entry of both tables, again with each later line or end call; after acceptance
- * `list` holds the employers in file order, then zeros, and `ids` zeros. */
+ * file: at most 65,536 are taken. No room for one more is refusal 62 or 63. A call may be lent
+ * tables of another length than the call before, as long as they hold what is in use (else 72);
+ * their content is the caller's to keep. An E record sets all six numbers of its entry, count and
+ * cents to zero; T sets these two. A refusal by an edit (1 to 65, 91, 100 to 104) zeroes every
+ * entry of both tables, again with each later line or end call; after acceptance `list` holds the
+ * employers in file order, then zeros, and `ids` zeros. */
 
 /* Opens a walk over a file of this format for the last closed quarter, year 2025 to 9999 and
  * month 3, 6, 9 or 12: zeroes both tables and fills the state. In this order: 72 for fewer than
@@ -190,13 +197,16 @@ uint64_t wage_whole(uint64_t format, uint64_t year, uint64_t month, const uint8_
 uint64_t wage_write_t(const uint64_t *state, size_t state_length, uint8_t *out, size_t out_length, uint64_t *answer, size_t answer_length);
 uint64_t wage_write_f(const uint64_t *state, size_t state_length, uint8_t *out, size_t out_length, uint64_t *answer, size_t answer_length);
 
-/* The same for an amended withholding file, into 275 bytes. `payments` are the cents of T
- * 112-122, which no S record says; T 123-136 is what is due, or overpaid, by them. `total` is
- * read in edition 2020 alone, of which there is no format yet: any number will do. In this
+/* The same for an amended withholding file of either edition, into 275 bytes. What no S record
+ * says is given, in cents: `payments`, T 112-122, and `total`, the tax of all employees, which is
+ * T 213-226 in edition 2020; in edition 2024 these columns have the sum of the S records, and any
+ * total will do. T 123-136 is what is due, or overpaid, by T 213-226 and the payments. In this
  * order: 72; 83 if `out` is not 275 bytes; 80 if no T (no F) can stand here, or the walk is over
- * a file of another format: an F may also follow an E that says 0 and has no T; 81 as above; 82
- * if the payments or a sum is too large for the record. wage_write_t and wage_write_f answer 80
- * to a walk over such a file, and these two to a walk over a paid leave wage file. */
+ * a file of another format: in edition 2024 an F may also follow an E that says 0 and has no T,
+ * in edition 2020 no T can stand in a return without a B, and no F behind a B that has no E; 81
+ * as above; 82 if the payments, a sum or, in edition 2020, the total is too large for the record.
+ * wage_write_t and wage_write_f answer 80 to a walk over such a file, and these two to a walk
+ * over a paid leave wage file. */
 #define WAGE_WHAM_RECORD_BYTES 275
 uint64_t wage_wham_write_t(const uint64_t *state, size_t state_length, uint64_t payments, uint64_t total, uint8_t *out, size_t out_length,
                            uint64_t *answer, size_t answer_length);

@@ -35,7 +35,7 @@ WHOLE_STACK, CALL_STACK = 65536, 4096
 TEXTS = {"RequiredText", "OptionalText", "PersonName", "StateCode", "ZipCode", "ZipExtension"}
 CONSTANTS = {"RecordLetter", "EntityCode", "BlankSpace"}
 # The constants that the Rust crate has too, there without the WAGE_ in front.
-IN_RUST = ("ABI_VERSION", "FORMAT_PFML", "FORMAT_WHAM_2024", "FORMAT_NONE", "UNKNOWN_FORMAT", "STATE_WORDS")
+IN_RUST = ("ABI_VERSION", "FORMAT_PFML", "FORMAT_WHAM_2024", "FORMAT_WHAM_2020", "FORMAT_NONE", "UNKNOWN_FORMAT", "STATE_WORDS")
 
 passed = 0
 failed = 0
@@ -118,7 +118,9 @@ def stack(measure):
     """Every export on a thread that has the stack that wage.h names, and no more; and what each of them needs of it."""
     done = run(*measure, text=True)
     check("tests/c/stack.c: %r" % done, done.returncode == 0)
-    needed = {name: int(number) for name, number in (line.split() for line in done.stdout.splitlines())}
+    needed = {}
+    for name, number in (line.split() for line in done.stdout.splitlines()):
+        needed[name] = max(int(number), needed.get(name, 0))
     check("each export is measured", sorted(needed) == exports())
     for name, number in needed.items():
         check("%s needs %d bytes of stack, less than wage.h says" % (name, number), number < (WHOLE_STACK if name == "wage_whole" else CALL_STACK))

@@ -100,7 +100,7 @@ def itins():
 
 
 def texts():
-    for c in (*range(19), *range(60, 65)):
+    for c in (*range(19), *range(60, 70)):
         for text in ("", "          ", "ABCDEFGHIJ", " BCDEFGHIJ", "A         ", "1234567890", "12345 7890", "O'NEIL-ROY", "ANNE2     ", "anne      ",
                      "MARY ANN  ", "AB.DEFGHIJ", "         A", "0         "):
             yield c, 1, 10, text
@@ -108,7 +108,7 @@ def texts():
         yield c, 4, 3, "ab 12"
         yield c, 3, 3, "ab 12"
         yield c, 2, 6, "ab 12"
-    for c in (64, 18):
+    for c in (69, 18):
         yield c, 1, 3, "!!!"
     for text in ("PFML", "pfml", "PfMl", "PFM", "PFMLX", "PFNL", "    ", "WHAM", " PFML"):
         yield 30, 1, 0, text

@@ -1,11 +1,11 @@
 #!/usr/bin/env python3
-"""The stored cases of the program `test_files`, and the stored input of the program `acknowledge_wham_2024`.
+"""The stored cases of the program `test_files`, and the stored inputs of the programs `acknowledge_wham_2024` and `acknowledge_wham_2020`.
 
     tests/file_cases.py           compare them with what is made here, with the answers stated here, and with tests/reference-rs
     tests/file_cases.py --write   write them
 
-The cases of PFML stay as they are stored. After them come the worked cases of the amended withholding file, edition 2024, by the numbers of the list of its
-rules, which states the answers. Cases 2, 12 and 17 to 20 are of another edition. In case 25 a list of one entry is full, which no program has:
+The cases of PFML stay as they are stored. After them come the worked cases of the amended withholding file, edition 2024 and then edition 2020, by the
+numbers of the list of its rules, which states the answers; some have parts of both editions. In case 25 a list of one entry is full, which no program has:
 bindings/rust/tests/exports.rs has that.
 The programs are run on what is stored, and held to the answers, by `rt ci`. It needs cargo, which builds the reference.
 """
@@ -16,11 +16,11 @@ from typing import NamedTuple
 import reference_rs
 
 ROOT = reference_rs.ROOT
-TEST_FILES, ALONE = (os.path.join(ROOT, "crates", name) for name in ("test_files", "acknowledge_wham_2024"))
-EXAMPLE = os.path.join(ROOT, "examples", "wham-2024", "accepted-two-employers")
+TEST_FILES = os.path.join(ROOT, "crates", "test_files")
 # formats by their numbers, and what names those that there are to the reference; 9 will name none
-PFML, WHAM_2024, NO_FORMAT = 0, 1, 9
-FLAGS = {PFML: (), WHAM_2024: ("--format", "wham-2024")}
+PFML, WHAM_2024, WHAM_2020, NO_FORMAT = 0, 1, 2, 9
+NAMES = {WHAM_2024: "wham-2024", WHAM_2020: "wham-2020"}
+FLAGS = {PFML: (), **{format_: ("--format", name) for format_, name in NAMES.items()}}
 HEAD = len(b"00000000 00000 0\n")
 # the last closed quarter of the worked cases, and that of the example
 HELD, HELD_OF_EXAMPLE = b"202609\n", b"202606\n"
@@ -60,7 +60,7 @@ def a_record(year=2024):
 
 
 def b_record():
-    return filled(b"B", (2, b"2024"), (6, b"012345678"), (15, b"WHAM"), (19, b"HOURS OF MARCH CORRECTED"), (265, ACCOUNT))
+    return filled(b"B", (2, b"2024"), (6, b"%09d" % FEIN), (15, b"WHAM"), (19, b"HOURS OF MARCH CORRECTED"), (265, ACCOUNT))
 
 
 def e_record(follow=1, year=2024, month=3):
@@ -73,10 +73,10 @@ def s_record(original, correct, identity=b"001020003"):
                   (203, b"%012d" % correct), (215, ACCOUNT))
 
 
-def t_record(count, payments=0, original=0, amended=0):
-    due = amended - payments
+def t_record(count, payments=0, at_175=0, at_213=0):
+    due = at_213 - payments
     signed = b"%014d" % due if due >= 0 else b"-%013d" % -due
-    return filled(b"T", (2, b"%07d" % count), (9, b"WHAM"), (112, b"%011d" % payments), (123, signed), (175, b"%014d" % original), (213, b"%014d" % amended))
+    return filled(b"T", (2, b"%07d" % count), (9, b"WHAM"), (112, b"%011d" % payments), (123, signed), (175, b"%014d" % at_175), (213, b"%014d" % at_213))
 
 
 def f_record(count, employers, total):
@@ -123,7 +123,7 @@ def ends(lines):
     return refused(6 if lines == 1 else 7, lines + 1, 1)
 
 
-# ---- the cases: number in the list, answer, records
+# ---- the cases of edition 2024: number in the list, answer, records
 
 def whole_files():
     yield 1, FRAMES_1, FILE_1
@@ -211,19 +211,74 @@ def early_ends():
     yield 25, FRAMES_1, (A, put(E1, 225, b"0005"), *FILE_1[2:])
 
 
+# ---- those of edition 2020
+
+def explained_files():
+    yield 2, FRAMES_1, FILE_2
+    yield 3, refused(100, 6, 1), FILE_1
+    yield 4, refused(17, 4, 1), (A, B, E0, F0)
+    yield 17, FRAMES_4, (A, E0, B, T0, F0)
+    yield 17, FRAMES_1, (A, B, B, E1, TWO[0], B, TWO[1], *FILE_2[-2:])
+
+
+def explained_totals():
+    for of_records in (b"00000000000900", b"-0000000001070"):
+        yield 12, refused(57, 5, 175), (A, B, E1, s_record(900, 1070), put(t_record(1, 0, 0, 5000), 175, of_records))
+
+
+def explained_employers():
+    no_fein, of_69 = b"000000000", b"690000000"
+    yield 13, refused(44, 1, 6), (put(A, 6, of_69),)
+    yield 13, refused(44, 3, 209), (A, B, put(E1, 209, of_69))
+    yield 13, ends(1), (put(A, 6, no_fein),)
+    yield 13, ends(3), (A, put(B, 6, no_fein), put(E1, 6, no_fein))
+    yield 14, refused(33, 3, 258), (A, B, put(E1, 258, b"1234-5678  "))
+
+
+def explained_employees():
+    for answer, identity in ((refused(52, 4, 2), b"900700001"), (refused(30, 4, 3), b"9A0000000"), (ends(4), b"666000001"), (refused(52, 4, 2), b"123456789")):
+        yield 21, answer, (A, B, E1, put(S, 2, identity))
+    yield 21, ends(5), (A, B, E1, *[put(S, 2, b"000000000")] * 2)
+
+
+def places_of_b():
+    for answer, records in ((refused(100, 3, 1), (A, E0, T0)), (refused(100, 6, 1), (A, B, E0, T0, E0, T0)), (refused(100, 6, 1), (A, B, E0, T0, B, F0))):
+        yield 17, answer, records
+    for answer, records in ((refused(10, 1, 1), (B,)), (refused(13, 3, 1), (A, B, T0)), (refused(14, 3, 1), (A, B, F0)), (refused(12, 3, 1), (A, B, S)),
+                            (refused(6, 3, 1), (A, B)), (refused(18, 6, 1), (A, B, E0, T0, B, T0)), (refused(8, 6, 1), (A, B, E0, T0, B)),
+                            (refused(100, 6, 1), (A, B, E0, T0, F0, B))):
+        yield 18, answer, records
+
+
+def fields_of_b():
+    for answer, column, text in ((refused(101, 2, 2), 2, b"2023"), (refused(44, 2, 6), 6, b"690000000"), (refused(103, 2, 19), 19, b" " * 246),
+                                 (refused(33, 2, 19), 19, b" "), (refused(30, 2, 269), 265, b"1234-5678  ")):
+        yield 19, answer, (A, put(B, column, text))
+    fein, account = put(B, 6, b"012345679"), put(B, 265, b"12345678901")
+    for answer, records in ((refused(102, 3, 6), (A, fein, E1)), (refused(102, 3, 6), (A, E1, fein)), (refused(102, 3, 6), (A, B, fein)),
+                            (refused(104, 3, 258), (A, account, E1)), (refused(104, 3, 265), (A, E1, account))):
+        yield 20, answer, records
+
+
+# ---- inputs that are not the quarter and records that each end with LF
+
 def joined(records, end=b"\n"):
     return b"".join(record + end for record in records)
 
 
 def other_inputs():
-    """Those that are not the quarter and records that each end with LF: number in the list, answer, input."""
+    """Of edition 2024: number in the list, answer, input."""
     yield 15, refused(39, 1, 2), b"202512\n" + joined((a_record(2026),))
     for answer, file in ((refused(1, 1, 275), A[:274] + b"\n"), (refused(1, 1, 276), A + b" \n"), (refused(2, 1, 276), A), (refused(3, 1, 19), put(A, 19, b"\0") + b"\n"),
                          (FRAMES_1, joined(map(with_tildes, FILE_1))), (FRAMES_1, joined(FILE_1).lower()), (FRAMES_1, joined(FILE_1, b"\r\n")),
                          (FRAMES_1, joined(FILE_1, b"\r")), (refused(1, 2, 1), joined(FILE_1, b"\n\r"))):
         yield 23, answer, HELD + file
+    yield from no_quarters(FILE_1)
+
+
+def no_quarters(records):
     for header in (b"202412\n", b"2026092\n"):
-        yield 24, refused(70, 0, 0), header + joined(FILE_1)
+        yield 24, refused(70, 0, 0), header + joined(records)
 
 
 def unknown_formats():
@@ -232,12 +287,19 @@ def unknown_formats():
         yield 24, answer, header + joined(FILE_1)
 
 
+PARTS = {WHAM_2024: (whole_files, places, deposits, totals, employers, quarters, employees, early_ends),
+         WHAM_2020: (explained_files, explained_totals, explained_employers, explained_employees, places_of_b, fields_of_b)}
+
+
+def made_of(format_, *others):
+    """The cases of an edition in the order of the list, those that `others` has as format, number, answer and input among them."""
+    told = [(number, HELD + joined(records), format_, answer) for part in PARTS[format_] for number, answer, records in part()]
+    told += [(number, given, other, answer) for other, cases in others for number, answer, given in cases]
+    return sorted(told, key=lambda case: case[0])
+
+
 def made():
-    told = [(number, HELD + joined(records), WHAM_2024, answer)
-            for part in (whole_files, places, deposits, totals, employers, quarters, employees, early_ends) for number, answer, records in part()]
-    told += [(number, given, WHAM_2024, answer) for number, answer, given in other_inputs()]
-    told += [(number, given, NO_FORMAT, answer) for number, answer, given in unknown_formats()]
-    told.sort(key=lambda case: case[0])
+    told = made_of(WHAM_2024, (WHAM_2024, other_inputs()), (NO_FORMAT, unknown_formats())) + made_of(WHAM_2020, (WHAM_2020, no_quarters(FILE_2)))
     return [Case("worked case %d (case %d here)" % (number, k), given, PIECES[k % len(PIECES)], format_, answer)
             for k, (number, given, format_, answer) in enumerate(told)]
 
@@ -274,12 +336,20 @@ def of_pfml(cases):
     return [case for case in cases if case.format == PFML]
 
 
+def alone(format_):
+    """The folder of an edition's own program, and the example that is its stored input, without its ending."""
+    name = NAMES[format_]
+    return os.path.join(ROOT, "crates", "acknowledge_" + name.replace("-", "_")), os.path.join(ROOT, "examples", name, "accepted-two-employers")
+
+
 def write_all():
     cases = of_pfml(stored_cases()) + made()
     write(b"".join(b"%08d %05d %d\n" % (len(case.given), case.piece, case.format) + case.given for case in cases), TEST_FILES, "stdin")
     write(b"".join(case.answer + b".\n" for case in cases), TEST_FILES, "stdout")
-    write(HELD_OF_EXAMPLE + read(EXAMPLE + ".txt"), ALONE, "stdin")
-    write(read(EXAMPLE + ".frames"), ALONE, "stdout")
+    for format_ in NAMES:
+        crate, example = alone(format_)
+        write(HELD_OF_EXAMPLE + read(example + ".txt"), crate, "stdin")
+        write(read(example + ".frames"), crate, "stdout")
     print("%d cases written" % len(cases))
 
 
@@ -312,10 +382,11 @@ def compare_reference(check, cases):
             check("%s: the reference says %r, not %r" % (case.name, answer, case.answer), answer == case.answer)
 
 
-def compare_alone(check):
-    stdin, stdout = (read(ALONE, name) for name in ("stdin", "stdout"))
-    check("acknowledge_wham_2024 has another input than the example", stdin == HELD_OF_EXAMPLE + read(EXAMPLE + ".txt"))
-    check("acknowledge_wham_2024: the reference says otherwise", reference_rs.acknowledged(stdin, *FLAGS[WHAM_2024]) == stdout)
+def compare_alone(check, format_):
+    crate, example = alone(format_)
+    stdin, stdout = (read(crate, name) for name in ("stdin", "stdout"))
+    check("%s has another input than the example" % crate, stdin == HELD_OF_EXAMPLE + read(example + ".txt"))
+    check("%s: the reference says otherwise" % crate, reference_rs.acknowledged(stdin, *FLAGS[format_]) == stdout)
 
 
 def main(arguments):
@@ -327,8 +398,11 @@ def main(arguments):
     check("the reference is built: %s" % built.stderr, built.returncode == 0)
     compare_stored(check, stored, wanted)
     compare_reference(check, of_pfml(stored) + wanted)
-    compare_alone(check)
-    print("%d cases of PFML and %d worked cases of the amended withholding file" % (len(of_pfml(stored)), len(wanted)))
+    for format_ in NAMES:
+        compare_alone(check, format_)
+    of_2020 = sum(case.format == WHAM_2020 for case in wanted)
+    counts = len(of_pfml(stored)), len(wanted) - of_2020, of_2020
+    print("%d cases of PFML, and worked cases of the amended withholding file: %d of edition 2024, %d of edition 2020" % counts)
     print("%d passed, %d failed" % (check.passed, check.failed))
     return 1 if check.failed else 0
 

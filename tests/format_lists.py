@@ -3,11 +3,14 @@
 
     tests/format_lists.py [FOLDER]     the folder of the papers, ../shared/documents from the repository's root if not given
 
-A page names its sources and the length of its records in a table with the headings 'Source document' and 'Record length', a row for each edition.
+A page names its editions in a table with the headings 'Edition', 'Source document', 'Record length', 'Records' and 'Fields', a row for each.
 A citation is words in straight quotes and then a source with its line or lines: "Enter WHAM" 001:312, or "WHAM" 001:263, 002:256-257. The words have to
-stand there, in each place that is named; '..' within them stands for words left out. A place without words is a failure, but in the first column of a table
-where that has the heading 'Lines': there it says that these lines hold no edit. Every line of a page's sources is cited, stands in such a table, or is blank.
-A table whose first headings are 'Columns' and 'Field' is that of a record, and its rows tile the record.
+stand there, in each place that is named, but for the source's emphasis; '..' within them stands for words left out. A place without words is a failure, but in
+the first column of a table where that has the heading 'Lines': there it says that these lines hold no edit. Every line of a page's sources is cited, stands in
+such a table, or is blank. A page has Latin letters alone: source 002 prints some of its codes in letters that only look like them.
+A table whose first headings are 'Columns' and 'Field' is that of a record, under a heading as 'A, transmitter: 16 fields'. Its rows tile the record and are as
+many as the heading says; it has a column 'Rules 2024' for each edition with that record and for no other, and each row cites the source of each of them. The
+rows of an edition's records are as many as the edition has fields.
 Only failures are printed; the last line is 'N passed, M failed'.
 """
 import functools
@@ -22,6 +25,7 @@ PLACE = r"00[1-4]:\d+(?:-\d+)?"
 PLACES = "%s(?:, %s)*" % (PLACE, PLACE)
 # Signs that the sources print in several ways, and a page in one.
 SAME = str.maketrans({"‘": "'", "’": "'", "“": '"', "”": '"', "‐": "-", "‑": "-", "–": "-", "—": "-", "−": "-"})
+EMPHASIS = r"</?[biu]>|\*\*+"
 
 
 def say(holds, what):
@@ -31,7 +35,7 @@ def say(holds, what):
 
 
 def normalised(text):
-    return " ".join(text.translate(SAME).split())
+    return " ".join(re.sub(EMPHASIS, "", text).translate(SAME).split())
 
 
 # ---- the sources
@@ -98,10 +102,17 @@ def tables(lines):
     return found
 
 
+EDITION = ["Edition", "Source document", "Record length", "Records", "Fields"]
+
+
 def editions(page_tables):
-    """The sources of a page, and the lengths of its records."""
-    rows = [dict(zip(heads, cells)) for _, heads, rows in page_tables if {"Source document", "Record length"} <= set(heads) for _, cells in rows]
-    return [row["Source document"] for row in rows], {row.get("Record length", "") for row in rows}
+    """What the page says of each of its editions, by the headings of EDITION."""
+    return [dict(zip(heads, cells)) for _, heads, rows in page_tables if set(EDITION) <= set(heads) for _, cells in rows if len(cells) == len(heads)]
+
+
+def records(page_tables):
+    """(letter, heading above it, headings of its columns, rows) of each record's table."""
+    return [(above.split(",")[0], above, heads, rows) for above, heads, rows in page_tables if heads[:2] == ["Columns", "Field"]]
 
 
 def citations(line):
@@ -161,25 +172,47 @@ def untiled(rows, length):
     return "" if str(at - 1) == length else "the last column is %d, not %s" % (at - 1, length)
 
 
+def check_records(page, found, editions_of_page):
+    """The tables of the records: their columns, their numbers of fields, and what each row cites."""
+    tables_of_records = records(found)
+    lengths = {edition["Record length"] for edition in editions_of_page}
+    for letter, above, heads, rows in tables_of_records:
+        where = "%s, %s" % (page, above)
+        wrong = untiled(rows, min(lengths, default=""))
+        say(not wrong, "%s: %s" % (where, wrong))
+        say(re.fullmatch(r"\w, [^:]*: %d fields" % len(rows), above), "%s: the table has %d fields" % (where, len(rows)))
+        having = [edition for edition in editions_of_page if letter in edition["Records"].split(", ")]
+        wanted = ["Rules " + edition["Edition"] for edition in having]
+        say(wanted == [head for head in heads if head.startswith("Rules ")], "%s: its columns of rules are not %s" % (where, " and ".join(wanted)))
+        for number, cells in rows:
+            cited = {place[:3] for _, places in citations(" | ".join(cells)) for place in places}
+            lacking = [edition["Source document"] for edition in having if edition["Source document"] not in cited]
+            say(not lacking, "%s, line %d: %s is not cited" % (where, number, " and ".join(lacking)))
+    for edition in editions_of_page:
+        letters = edition["Records"].split(", ")
+        count = sum(len(rows) for letter, _, _, rows in tables_of_records if letter in letters)
+        say(edition["Fields"] == str(count), "%s: edition %s has %d fields, not %s" % (page, edition["Edition"], count, edition["Fields"]))
+        lacking = set(letters) - {letter for letter, *_ in tables_of_records}
+        say(not lacking, "%s: edition %s has no table of %s" % (page, edition["Edition"], ", ".join(sorted(lacking))))
+
+
 def check_page(path, folder):
     page = os.path.relpath(path, ROOT)
     with open(path, encoding="utf-8") as f:
         lines = f.read().split("\n")
     found = tables(lines)
-    sources, lengths = editions(found)
-    say(sources and len(lengths) == 1, page + ": it has to name its sources, and one length of its records")
+    named = editions(found)
+    say(named and len({edition["Record length"] for edition in named}) == 1, page + ": it has to name its editions, and one length of their records")
     listed = {number: cells[0] for _, heads, rows in found if heads[0] == "Lines" for number, cells in rows}
     covered = check_citations(page, lines, listed, folder) | check_listed(page, listed, folder)
-    for source in sources:
+    for source in [edition["Source document"] for edition in named]:
         for number, line in enumerate(source_lines(folder, source), 1):
             what = "%s: %s:%d is neither cited nor among the lines that hold no edit: %s" % (page, source, number, normalised(line))
             if line.strip():
                 say((source, number) in covered, what)
-    records = [(above, rows) for above, heads, rows in found if heads[:2] == ["Columns", "Field"]]
-    say(records, page + ": it has no table of a record's fields")
-    for above, rows in records:
-        wrong = untiled(rows, min(lengths, default=""))
-        say(not wrong, "%s, %s: %s" % (page, above, wrong))
+    strange = ["line %d: %s" % (number, c) for number, line in enumerate(lines, 1) for c in line if c.isalpha() and not c.isascii()]
+    say(not strange, "%s has letters that are not Latin: %s" % (page, ", ".join(strange)))
+    check_records(page, found, named)
 
 
 def main():

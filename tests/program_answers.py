@@ -2,7 +2,8 @@
 """The programs as they are installed: the examples of each format through the command `wage-ack`, called by every way and on every kind of input; what it
 turns away; and what comes of inputs and outputs that fail: never a false frame.
 
-It needs the programs: `rt ci` builds them, and `rt run` in their folders, crates/acknowledge and crates/acknowledge_wham_2024.
+It needs the programs: `rt ci` builds them, and `rt run` in their folders, crates/acknowledge, crates/acknowledge_wham_2024 and
+crates/acknowledge_wham_2020.
 """
 import os
 import shlex
@@ -29,16 +30,19 @@ class Format(NamedTuple):
 
 PFML = Format("pfml", 0, EXAMPLES, "acknowledge")
 WHAM_2024 = Format("wham-2024", 1, os.path.join(EXAMPLES, "wham-2024"), "acknowledge_wham_2024")
-FORMATS = (PFML, WHAM_2024)
+WHAM_2020 = Format("wham-2020", 2, os.path.join(EXAMPLES, "wham-2020"), "acknowledge_wham_2020")
+FORMATS = (PFML, WHAM_2024, WHAM_2020)
 QUARTER = "202606"
 # The examples of the current quarter: the last closed one is the quarter before theirs.
 EARLIER = {"accepted-closing-this-quarter": "202603", "refused-65-not-final": "202603"}
 
-# The two answers that the specification prints, the first with the employer frame of document 02 (xiii); and the one that the rules of wham-2024 print.
+# The two answers that the specification prints, the first with the employer frame of document 02 (xiii); and the one that the rules of the amended withholding
+# file print, of each edition.
 PRINTED = {
     os.path.join(PFML.folder, "accepted-one-employer"): b"0200BC614E00000002000000000001E26C000000000000\n000000000200000001000000000001E26C\n",
     os.path.join(PFML.folder, "refused-52-identity-number"): b"FF34000000030002\n",
     os.path.join(WHAM_2024.folder, "accepted-one-employer"): b"0100BC614E00000002000000000001E26C\n000000000200000001000000000001E26C\n",
+    os.path.join(WHAM_2020.folder, "accepted-one-employer"): b"0100BC614E00000002000000000001E26C\n000000000200000001000000000001E26C\n",
 }
 # The program's answer to a header that is no quarter.
 BAD_HEADER = b"FF46000000000000\n"
@@ -49,13 +53,18 @@ BAD_QUARTERS = ("", "2026", "20263", "2026033", "202603\n", "\n202603", "2026\n3
                 b"2026\xb203", "accepted-two-employers.txt")
 LOCALES = ("C", "C.UTF-8", "en_US.UTF-8")
 # What is the name of no format.
-BAD_FORMATS = ("", " ", "PFML", "pfml ", "pfml\n", "\npfml", "Wham-2024", "wham", "wham-2020", "wham-2024x", "wham_2024", "0", "1", "*", "pfm?", "-", "--help", "202606",
-               b"pfml\xff")
-# What `--help` has to say: the frames of each format, and three things that surprise users of wham-2024.
-HELP = (b"[--format FORMAT] YYYYMM FILE", b"for each employer, beginning 02, in wham-2024 beginning 01,",
+BAD_FORMATS = ("", " ", "PFML", "pfml ", "pfml\n", "\npfml", "Wham-2024", "wham", "wham-2022", "wham-2024x", "wham_2024", "wham-202", "wham_2020", "0", "1", "2",
+               "*", "pfm?", "wham-202?", "-", "--help", "202606", b"pfml\xff")
+# What `--help` has to say: the frames of each format, and what surprises users of each edition of the amended withholding file.
+HELP = (b"[--format FORMAT] YYYYMM FILE", b"for each employer, beginning 02, in wham-2024 and wham-2020 beginning 01,",
         b"A file with the B record that Maine's document 001 asks for is refused, with number 4; and \"accepted\" says nothing of that B.",
-        b"Columns 225 to 228 of E, the number of employees, are not compared with anything.",
-        b"An E that says 0 in column 190 and whose T has tax on it is refused.")
+        b"An E that says 0 in column 190 and whose T has tax on it is refused.",
+        b"Every return needs a B record, before its E or under it: its T is refused without one, with number 100.",
+        b"An E that says 0 in column 190 needs its T all the same.",
+        b"Columns 213 to 226 of T, the tax of all employees, are compared with nothing but columns 123 to 136, the amount due.",
+        b"The account has eleven characters without a blank; B asks for digits, and E and S for what B has.")
+# What it says of both editions.
+HELP_OF_BOTH = b"Columns 225 to 228 of E, the number of employees, are not compared with anything."
 # Every month; the first quarter and the last.
 GOOD_QUARTERS = ("202503", "202506", "202509", "202512", "999912")
 # All that the command calls before it builds anything: `rt` is not among them.
@@ -200,11 +209,12 @@ def before_building():
             for locale in LOCALES:
                 refused_to_answer("quarter %r in %s" % (quarter, locale), run(quarter, "none", locale=locale), b" is no quarter: YYYYMM is needed")
         for name in BAD_FORMATS:
-            refused_to_answer("format %r" % name, run("--format", name, QUARTER, "none"), b" is no format: pfml or wham-2024 is needed")
-        refused_to_answer("a format and a quarter", run("--format", "wham-2024", "2026", "none"), b" is no quarter: YYYYMM is needed")
+            refused_to_answer("format %r" % name, run("--format", name, QUARTER, "none"), b" is no format: pfml, wham-2024 or wham-2020 is needed")
+        for form in FORMATS:
+            refused_to_answer("a format and a quarter", run("--format", form.name, "2026", "none"), b" is no quarter: YYYYMM is needed")
         for what, given, says in (("a file that is not there, before building", "none", b"cannot be read"), ("a directory, before building", "path", b"is a directory"),
                                   ("no kit", "wage-ack", b"rt is not on the path")):
-            for words in ((), ("--format", "wham-2024")):
+            for words in ((), ("--format", "wham-2024"), ("--format", "wham-2020")):
                 refused_to_answer(what, run(*words, QUARTER, given), says)
         check("nothing is made beside it", sorted(os.listdir(folder)) == there)
 
@@ -253,12 +263,16 @@ def quarters(file):
 
 
 def formats(file, frames):
-    """PFML by its name and by none; a file under the other format, whose records are too long or too short; arguments that are missing, or one too many."""
+    """PFML by its name and by none; a file under another format, whose records are too long or too short; an amended file under the other edition: one with a
+    B, and one without; arguments that are missing, or one too many."""
     amended = os.path.join(WHAM_2024.folder, "accepted-two-employers.txt")
     for words in ((), ("--format", "pfml")):
         answered("PFML, named by %r" % (words,), wage_ack(*words, QUARTER, file), frames)
         answered("an amended file as PFML, named by %r" % (words,), wage_ack(*words, QUARTER, amended), b"FF01000000010114\n", 1)
-    answered("a wage file as wham-2024", wage_ack("--format", "wham-2024", QUARTER, file), b"FF01000000010114\n", 1)
+    for form, other, told in ((WHAM_2024, WHAM_2020, b"FF04000000020001\n"), (WHAM_2020, WHAM_2024, b"FF64000000070001\n")):
+        answered("a wage file as %s" % form.name, wage_ack("--format", form.name, QUARTER, file), b"FF01000000010114\n", 1)
+        answered("a file of %s as %s" % (other.name, form.name),
+                 wage_ack("--format", form.name, QUARTER, os.path.join(other.folder, "accepted-one-employer.txt")), told, 1)
     for arguments in (("--format",), ("--format", "pfml"), ("--format", "wham-2024", QUARTER), ("--format", "pfml", QUARTER, file, file),
                       (QUARTER, file, "--format", "pfml"), (QUARTER, "--format", "pfml", file), ("--format", "pfml", "--format", "pfml", QUARTER, file),
                       ("--format=pfml", QUARTER, file)):
@@ -272,6 +286,7 @@ def help_text():
         check("%s: %r" % (word, done), done.returncode == 0 and done.stderr == b"")
         for words in HELP:
             check("%s says %r" % (word, words), words in done.stdout)
+        check("%s says of both editions %r" % (word, HELP_OF_BOTH), done.stdout.count(HELP_OF_BOTH) == 2)
         check("%s ends with the comment" % word, b"\nset " not in done.stdout and b"#" not in done.stdout)
 
 
@@ -352,6 +367,16 @@ def many_taxed(count):
     return b"\n".join([a, e, *[r, employee] * count, total, final, b""]), frames
 
 
+def many_explained(count):
+    """The same of wham-2020: so many S records, each with a deposit and a B record."""
+    a, b, e, s, r, _, t, f, _ = read(os.path.join(WHAM_2020.folder, "accepted-one-employer.txt")).split(b"\n")
+    employee = s[:190] + b"%012d%012d" % (0, 1) + s[214:]
+    total = t[:1] + b"%07d" % count + t[8:174] + b"%014d" % count + t[188:]
+    final = f[:1] + b"%010d" % count + f[11:40] + b"%015d" % count + f[55:]
+    frames = b"0100BC614E%08X%016X\n00%08X00000001%016X\n" % (count, count, count, count)
+    return b"\n".join([a, e, *[r, employee, b] * count, total, final, b""]), frames
+
+
 def small_stack(command, file, frames):
     """A program has arrays of fixed size, and nothing that grows with the file."""
     done = subprocess.run("ulimit -s 1024 && exec %s %s" % tuple(map(shlex.quote, command)), shell=True, input=QUARTER.encode() + b"\n" + file, capture_output=True)
@@ -370,7 +395,7 @@ def main():
     formats(file, frames)
     help_text()
     command_failures(file)
-    for form, many in ((PFML, many_wages), (WHAM_2024, many_taxed)):
+    for form, many in ((PFML, many_wages), (WHAM_2024, many_taxed), (WHAM_2020, many_explained)):
         given = read(os.path.join(form.folder, "accepted-two-employers.txt"))
         bad_headers(program(form), given)
         program_failures(program(form), QUARTER.encode() + b"\n" + given)

@@ -5,10 +5,10 @@
     tests/program_cases.py --seed N    a fixed seed, and N
     tests/program_cases.py --all-bytes every byte value at every place of a small file, instead
 
-Each format of file is tried: the wage file (PFML), and the amended withholding file of edition 2024 (wham-2024). Files go through the program `test_files`
-in reads of many sizes, some of them through the program of their format alone, and scripts of calls through the C program tests/c/calls.c over the
-exports. It needs cargo, and the programs acknowledge, acknowledge_wham_2024 and test_files: `rt ci` builds them, and `rt run` in the folder of each; library
-and C program are built here.
+Each format of file is tried: the wage file (PFML), and the amended withholding file of editions 2024 and 2020 (wham-2024, wham-2020). Files go through the
+program `test_files` in reads of many sizes, some of them through the program of their format alone, and scripts of calls through the C program
+tests/c/calls.c over the exports. It needs cargo, and the programs acknowledge, acknowledge_wham_2024, acknowledge_wham_2020 and test_files: `rt ci` builds
+them, and `rt run` in the folder of each; library and C program are built here.
 """
 import os
 import random
@@ -46,6 +46,8 @@ class Format(typing.NamedTuple):
 
 PFML = Format((), "acknowledge", 11000, False)
 WHAM_2024 = Format(("--format", "wham-2024"), "acknowledge_wham_2024", 9000, True)
+WHAM_2020 = Format(("--format", "wham-2020"), "acknowledge_wham_2020", 13000, True)
+FORMATS = (PFML, WHAM_2024, WHAM_2020)
 
 passed = 0
 failed = 0
@@ -201,12 +203,12 @@ def every_run(form, drawn):
 def main(arguments):
     build()
     if arguments == ["--all-bytes"]:
-        for form in (PFML, WHAM_2024):
+        for form in FORMATS:
             through_test_files(form, "cases", FIXED_SEED, 0, flags=("--all-bytes",))
     else:
         drawn = int(arguments[1]) if arguments[:1] == ["--seed"] else random.SystemRandom().randrange(1 << 32)
         print("seeds: %d, and drawn: %d" % (FIXED_SEED, drawn))
-        for form in (PFML, WHAM_2024):
+        for form in FORMATS:
             every_run(form, drawn)
     print("%d passed, %d failed" % (passed, failed))
     return 1 if failed else 0

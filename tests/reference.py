@@ -14,7 +14,7 @@ PROVINCES = set("AB BC MB NB NL NS NT NU ON PE QC SK YT".split())
 
 # the classes by their numbers in a list of fields
 (IGNORED, LETTER, BLANK, NUMERIC, ACCOUNT, FLAG, THIRD_QUARTER_FLAG, PERIOD, REQUIRED, OPTIONAL, NAME, ENTITY, STATE, ZIP, EXTENSION, YEAR, FEIN,
- IDENTITY, DATE, SOCIAL_SECURITY, MAINE, LICENCE, DIFFERENCE) = range(23)
+ IDENTITY, DATE, SOCIAL_SECURITY, MAINE, LICENCE, DIFFERENCE, SOCIAL_SECURITY_OF_2020, FEDERAL_NUMBER, SIGNED, FILLED, EXPLANATION) = range(28)
 
 
 def upper(text):
@@ -58,7 +58,7 @@ def required(text, first, last, missing):
 def class_test(number, text, first, last):
     if number == BLANK:
         return first_that_is_not(lambda c: c == " ", 31, text, first, last)
-    if number in (NUMERIC, YEAR, FEIN, IDENTITY, DATE, SOCIAL_SECURITY, MAINE):
+    if number in (NUMERIC, YEAR, FEIN, IDENTITY, DATE, SOCIAL_SECURITY, MAINE, SOCIAL_SECURITY_OF_2020, FEDERAL_NUMBER):
         return first_that_is_not(is_digit, 30, text, first, last)
     if number == ACCOUNT:
         if all(c == " " for c in field(text, first, last)):

@@ -1,8 +1,9 @@
 // What stack the exports need. Each is called on a thread that has painted its stack before, and what the call has touched is measured; then all of them are
 // called on a thread that has exactly the stack that wage.h names.
 //
-// It prints a line for each export: its name, and the bytes of stack that a call of it used, with those of the C function that makes the call. The exit status
-// is 0 where none is more than wage.h names and every call answers as it should.
+// It prints a line for each export: its name, and the bytes of stack that a call of it used, with those of the C function that makes the call; for those that
+// write records of an amended withholding file one for each edition. The exit status is 0 where none is more than wage.h names and every call answers as it
+// should.
 #include <stdint.h>
 #include <stdio.h>
 #include <stdlib.h>
@@ -14,7 +15,7 @@
 
 // Enough S records after each other for the longest run, in which each of the library's ways to look for an identity number is taken.
 enum { EMPLOYEES = 3000, LINES = EMPLOYEES + 4, LINE = WAGE_RECORD_BYTES + 1, PAINTED = 1 << 20, PAINT = 0xA5, OWN_FRAME = 256 };
-enum { WHAM_LINES = 6, WHAM_LINE = WAGE_WHAM_RECORD_BYTES + 1 };
+enum { WHAM_LINES = 7, WHAM_LINE = WAGE_WHAM_RECORD_BYTES + 1 };
 
 static uint8_t file[LINES * LINE], wham_file[WHAM_LINES * WHAM_LINE];
 static size_t length, wham_length;
@@ -93,10 +94,11 @@ static void *call_write_f(void *none)
 }
 
 static uint8_t wham_record[WHAM_LINE];
+static uint64_t wham_format;
 
 static void *call_wham_write_t(void *none)
 {
-    expect("wage_wham_write_t", wage_wham_write_t(state, WAGE_STATE_WORDS, 10000, 0, wham_record, WAGE_WHAM_RECORD_BYTES, answer, WAGE_ANSWER_WORDS), WAGE_FINE);
+    expect("wage_wham_write_t", wage_wham_write_t(state, WAGE_STATE_WORDS, 10000, 1070, wham_record, WAGE_WHAM_RECORD_BYTES, answer, WAGE_ANSWER_WORDS), WAGE_FINE);
     return none;
 }
 
@@ -108,7 +110,7 @@ static void *call_wham_write_f(void *none)
 
 static void *call_wham_whole(void *none)
 {
-    expect("wage_whole of WHAM", wage_whole(WAGE_FORMAT_WHAM_2024, 2026, 6, wham_file, wham_length, state, WAGE_STATE_WORDS, answer, WAGE_ANSWER_WORDS, NULL, 0, list, 2), WAGE_FINE);
+    expect("wage_whole of WHAM", wage_whole(wham_format, 2026, 6, wham_file, wham_length, state, WAGE_STATE_WORDS, answer, WAGE_ANSWER_WORDS, NULL, 0, list, 2), WAGE_FINE);
     return none;
 }
 
@@ -215,9 +217,10 @@ struct part {
 
 static const struct part wham_a[] = {{1, "A2026010101010WHAM"}, {24, "Pine Tree Payroll"}, {74, "1 State Street"}, {114, "Augusta"}, {139, "ME"}, {154, "04330"},
                                      {164, "Jo North"}, {194, "2075551212"}, {0, NULL}};
+static const struct part wham_b[] = {{1, "B2026012345678WHAM"}, {19, "Withheld twice"}, {265, "12345678900"}, {0, NULL}};
 static const struct part wham_e[] = {{1, "E2026012345678"}, {24, "Orchard Hill"}, {74, "4 Ridge Road"}, {114, "Bangor"}, {139, "ME"}, {154, "04401"}, {167, "WHAM23"},
-                                     {188, "031"}, {209, "000000000"}, {225, "0001"}, {258, "1234-5678"}, {0, NULL}};
-static const struct part wham_s[] = {{1, "S001020003ROY"}, {31, "ANN"}, {44, "23032026"}, {143, "WHAM"}, {191, "000000010000"}, {203, "000000001070"}, {215, "1234-5678"}, {0, NULL}};
+                                     {188, "031"}, {209, "000000000"}, {225, "0001"}, {258, "12345678900"}, {0, NULL}};
+static const struct part wham_s[] = {{1, "S001020003ROY"}, {31, "ANN"}, {44, "23032026"}, {143, "WHAM"}, {191, "000000010000"}, {203, "000000001070"}, {215, "12345678900"}, {0, NULL}};
 static const struct part wham_r[] = {{1, "R03312026"}, {19, "000008930"}, {0, NULL}};
 
 static void put_wham(const struct part *parts)
@@ -301,27 +304,28 @@ static int measure_all(void)
     return within;
 }
 
-// The same for the calls that write records of an amended withholding file.
-static int measure_wham(void)
+// The same for the calls that write records of an amended withholding file, whose other records are given, up to a null.
+static int measure_wham(uint64_t format, const struct part *const *records)
 {
-    static const struct part *const records[] = {wham_a, wham_e, wham_r, wham_s};
     int within;
-    expect("an opening of WHAM", wage_open(WAGE_FORMAT_WHAM_2024, 2026, 6, state, WAGE_STATE_WORDS, answer, WAGE_ANSWER_WORDS, NULL, 0, list, 2), WAGE_FINE);
-    for (size_t i = 0; i < sizeof records / sizeof *records; i++) {
-        put_wham(records[i]);
+    wham_format = format;
+    wham_length = 0;
+    expect("an opening of WHAM", wage_open(format, 2026, 6, state, WAGE_STATE_WORDS, answer, WAGE_ANSWER_WORDS, NULL, 0, list, 2), WAGE_FINE);
+    for (; *records != NULL; records++) {
+        put_wham(*records);
         hand_on_wham();
     }
     within = measure("wage_wham_write_t", call_wham_write_t);
     hand_on_wham();
     within &= measure("wage_wham_write_f", call_wham_write_f);
     hand_on_wham();
+    on_stack(NULL, WAGE_STACK_BYTES, call_wham_whole);
     return within;
 }
 
 // The calls one after the other, on one thread.
 static void *call_all(void *none)
 {
-    call_wham_whole(NULL);
     call_abi_version(NULL);
     call_whole(NULL);
     call_frames(NULL);
@@ -342,12 +346,15 @@ static void *call_all(void *none)
 
 int main(void)
 {
+    static const struct part *const of_2024[] = {wham_a, wham_e, wham_r, wham_s, NULL};
+    static const struct part *const of_2020[] = {wham_a, wham_b, wham_e, wham_r, wham_s, NULL};
     painted = mmap(NULL, PAINTED, PROT_READ | PROT_WRITE, MAP_PRIVATE | MAP_ANONYMOUS, -1, 0);
     if (painted == MAP_FAILED) {
         stop("no memory");
     }
     int within = measure_all();
-    within &= measure_wham();
+    within &= measure_wham(WAGE_FORMAT_WHAM_2024, of_2024);
+    within &= measure_wham(WAGE_FORMAT_WHAM_2020, of_2020);
     fflush(stdout);
     on_stack(NULL, WAGE_STACK_BYTES, call_all);
     return within ? 0 : 1;

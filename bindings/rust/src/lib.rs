@@ -47,6 +47,9 @@ pub const FORMAT_PFML: u64 = 0;
 /// The number of the format WHAM 2024, the amended withholding file of edition 2024.
 pub const FORMAT_WHAM_2024: u64 = 1;
 
+/// The number of the format WHAM 2020, the amended withholding file of edition 2020.
+pub const FORMAT_WHAM_2020: u64 = 2;
+
 /// What the state of a walk holds that was opened with a number that names no format.
 pub const FORMAT_NONE: u64 = 255;
 
@@ -265,10 +268,11 @@ impl Walk {
         told(answer).map(drop)
     }
 
-    /// Writes the T record of an amended withholding file that the walk accepts next into 275
-    /// bytes, without a line end. `payments` are the cents of its columns 112 to 122; `total` is
-    /// read in edition 2020 alone, of which there is no format yet. Refused as [`Walk::write_t`]
-    /// refuses, and with 82 also for payments that are too large.
+    /// Writes the T record of an amended withholding file, of either edition, that the walk accepts
+    /// next into 275 bytes, without a line end. `payments` are the cents of its columns 112 to 122;
+    /// `total`, which is read in edition 2020 alone, those of columns 213 to 226. Refused as
+    /// [`Walk::write_t`] refuses, in edition 2020 with 80 also for a return without a B, and with 82
+    /// also for payments or a total that are too large.
     pub fn wham_write_t(&self, payments: u64, total: u64, out: &mut [u8]) -> Result<(), Refusal> {
         let mut answer = [0; 4];
         unsafe {
@@ -286,7 +290,8 @@ impl Walk {
         told(answer).map(drop)
     }
 
-    /// The same for F, which no 81 refuses; it may also follow an E that says 0 and has no T.
+    /// The same for F, which no 81 refuses; in edition 2024 it may also follow an E that says 0 and
+    /// has no T, in edition 2020 it may not follow a B that has no E.
     pub fn wham_write_f(&self, out: &mut [u8]) -> Result<(), Refusal> {
         let mut answer = [0; 4];
         unsafe {

@@ -5,22 +5,28 @@ use std::fs;
 use std::path::{Path, PathBuf};
 use wage::fields::*;
 use wage::{abi_version, exports, field_number, field_text, Employer, Record, Refusal, Walk};
-use wage::{ABI_VERSION, FORMAT_NONE, FORMAT_PFML, FORMAT_WHAM_2024};
+use wage::{ABI_VERSION, FORMAT_NONE, FORMAT_PFML, FORMAT_WHAM_2020, FORMAT_WHAM_2024};
 use wage::{NO_ACCOUNT, STATE_WORDS, UNKNOWN_FORMAT};
 
 const YEAR: u64 = 2026;
 const MONTH: u64 = 6;
 /// Each format with the length of its records and the folder of its examples.
-const FORMATS: [(u64, usize, &str); 2] =
-    [(FORMAT_PFML, 290, ""), (FORMAT_WHAM_2024, 275, "wham-2024")];
+const FORMATS: [(u64, usize, &str); 3] = [
+    (FORMAT_PFML, 290, ""),
+    (FORMAT_WHAM_2024, 275, "wham-2024"),
+    (FORMAT_WHAM_2020, 275, "wham-2020"),
+];
 /// The examples of the current quarter: the last closed one is the quarter before theirs.
 const EARLIER: [&str; 2] = ["accepted-closing-this-quarter", "refused-65-not-final"];
 const STANDING: usize = 0;
 const REFUSAL: usize = 1;
+const OPEN_FEIN: usize = 9;
 const S_FOLLOW: usize = 10;
 const FORMAT: usize = 17;
 const OPEN_SECOND: usize = 18;
+const OPEN_NOTED: usize = 21;
 const FILE_SECOND: usize = 24;
+const FILE_OTHERS: usize = 25;
 
 fn example(name: &str) -> Vec<u8> {
     let path = Path::new(env!("CARGO_MANIFEST_DIR")).join("../../examples");
@@ -184,52 +190,92 @@ fn records_written() {
 /// that says 0 and has no T stays at zero.
 #[test]
 fn employers_of_an_amended_file() {
-    let file = example("wham-2024/accepted-two-employers.txt");
-    let mut walk = Walk::new(0, 3);
-    walk.whole(FORMAT_WHAM_2024, YEAR, MONTH, &file).unwrap();
     let entry = |fein, count, cents| Employer {
         fein,
         count,
         cents,
         ..Employer::default()
     };
-    let entries = [entry(700_000_000, 0, 0), entry(12_345_678, 2, 123_500)];
-    assert_eq!(walk.list[..2], entries);
-    assert_eq!(walk.list[2], Employer::default());
+    for (format, folder, first) in [
+        (FORMAT_WHAM_2024, "wham-2024", (0, 0)),
+        (FORMAT_WHAM_2020, "wham-2020", (1, 1_070)),
+    ] {
+        let file = example(&format!("{folder}/accepted-two-employers.txt"));
+        let mut walk = Walk::new(0, 3);
+        walk.whole(format, YEAR, MONTH, &file).unwrap();
+        let (count, cents) = first;
+        let entries = [
+            entry(700_000_000, count, cents),
+            entry(12_345_678, 2, 123_500),
+        ];
+        assert_eq!(walk.list[..2], entries, "{folder}");
+        assert_eq!(walk.list[2], Employer::default());
+    }
 }
 
-/// A list of one entry, A, and two E records that say 0.
+/// A list of one entry, A, and two E records that say 0; in edition 2020 with their B and T.
 #[test]
 fn no_room_for_an_amending_employer() {
     let file = example("wham-2024/accepted-two-employers.txt");
-    let (a, e) = (&file[..276], &file[276..552]);
-    let mut walk = Walk::new(0, 1);
-    let refusal = Refusal {
-        number: 63,
-        line: 3,
-        column: 6,
-    };
-    let whole = walk.whole(FORMAT_WHAM_2024, YEAR, MONTH, &[a, e, e].concat());
-    assert_eq!(whole, Err(refusal));
-    assert_eq!(walk.list, [Employer::default()]);
+    let with_b = example("wham-2020/accepted-zero-return.txt");
+    let returned = &with_b[276..1104];
+    for (format, file, line) in [
+        (
+            FORMAT_WHAM_2024,
+            [&file[..552], &file[276..552]].concat(),
+            3,
+        ),
+        (
+            FORMAT_WHAM_2020,
+            [&with_b[..276], returned, returned].concat(),
+            6,
+        ),
+    ] {
+        let mut walk = Walk::new(0, 1);
+        let refusal = Refusal {
+            number: 63,
+            line,
+            column: 6,
+        };
+        assert_eq!(walk.whole(format, YEAR, MONTH, &file), Err(refusal));
+        assert_eq!(walk.list, [Employer::default()]);
+    }
 }
 
-/// A T and an F that the library writes in place of the file's own, of which the payments are read.
+/// A T and an F that the library writes in place of the file's own, of which the payments are read
+/// and, in edition 2020, the total of all employees.
 #[test]
 fn amended_records_written() {
-    for (name, payments) in [
-        ("accepted-one-employer", 123_500),
-        ("accepted-two-employers", 123_500),
-        ("accepted-overpaid", 10_000),
-        ("accepted-fein-69", 123_500),
+    for (format, name, payments, total) in [
+        (
+            FORMAT_WHAM_2024,
+            "wham-2024/accepted-one-employer",
+            123_500,
+            9,
+        ),
+        (
+            FORMAT_WHAM_2024,
+            "wham-2024/accepted-two-employers",
+            123_500,
+            9,
+        ),
+        (FORMAT_WHAM_2024, "wham-2024/accepted-overpaid", 10_000, 9),
+        (FORMAT_WHAM_2024, "wham-2024/accepted-fein-69", 123_500, 9),
+        (
+            FORMAT_WHAM_2020,
+            "wham-2020/accepted-one-employer",
+            400_000,
+            500_000,
+        ),
+        (FORMAT_WHAM_2020, "wham-2020/accepted-zero-return", 0, 0),
     ] {
-        let file = example(&format!("wham-2024/{name}.txt"));
+        let file = example(&format!("{name}.txt"));
         let mut walk = Walk::new(0, 2);
-        walk.open(FORMAT_WHAM_2024, YEAR, MONTH).unwrap();
+        walk.open(format, YEAR, MONTH).unwrap();
         for line in file.chunks(276) {
             let mut out = line.to_vec();
             match line[0] {
-                b'T' => walk.wham_write_t(payments, 9, &mut out[..275]).unwrap(),
+                b'T' => walk.wham_write_t(payments, total, &mut out[..275]).unwrap(),
                 b'F' => walk.wham_write_f(&mut out[..275]).unwrap(),
                 _ => (),
             }
@@ -265,6 +311,65 @@ fn amended_records_not_written() {
     assert_eq!(out, [b'.'; 290]);
     assert_eq!(walk.wham_write_t(most - 1, 0, &mut out[..275]), Ok(()));
     assert_eq!(out[111..136], *b"99999999999-0099999998929");
+}
+
+/// In edition 2020 no T is written before its B is read, no F behind a B that waits, none under an
+/// E that says 0, and a total has fourteen digits.
+#[test]
+fn amended_records_and_their_b() {
+    let file = example("wham-2020/accepted-zero-return.txt");
+    let [a, b, e, t, _] = file.chunks(276).collect::<Vec<_>>()[..] else {
+        panic!("the example has five lines");
+    };
+    let mut walk = Walk::new(0, 1);
+    let mut out = [b'.'; 275];
+    let most = 100_000_000_000_000;
+    walk.open(FORMAT_WHAM_2020, YEAR, MONTH).unwrap();
+    for line in [a, e] {
+        assert_eq!(walk.line(line), Ok(276));
+    }
+    assert_eq!(walk.wham_write_t(0, 0, &mut out).unwrap_err().number, 80);
+    assert_eq!(walk.wham_write_f(&mut out).unwrap_err().number, 80);
+    assert_eq!(walk.line(b), Ok(276));
+    assert_eq!(walk.wham_write_f(&mut out).unwrap_err().number, 80);
+    assert_eq!(walk.wham_write_t(0, most, &mut out).unwrap_err().number, 82);
+    assert_eq!(out, [b'.'; 275]);
+    assert_eq!(walk.wham_write_t(1, most - 1, &mut out), Ok(()));
+    assert_eq!(out[122..136], *b"99999999999998");
+    assert_eq!(out[212..226], *b"99999999999999");
+    assert_eq!(walk.line(t), Ok(276));
+    assert_eq!(walk.clone().wham_write_f(&mut out), Ok(()));
+    assert_eq!(walk.line(b), Ok(276));
+    assert_eq!(walk.wham_write_f(&mut out).unwrap_err().number, 80);
+}
+
+/// What the state has of a return of edition 2020, line by line: FEIN, whether it has a B, and the
+/// account, which are those of the B until the E comes; and of the file the R and the B records.
+#[test]
+fn words_of_a_return() {
+    let file = example("wham-2020/accepted-one-employer.txt");
+    let mut walk = Walk::new(0, 1);
+    walk.open(FORMAT_WHAM_2020, YEAR, MONTH).unwrap();
+    let (none, explained) = ([0; 4], [12_345_678, 1, 0x3132_3334_3536, 0x37_3839_3030]);
+    let (mut deposits, mut notes) = (0, 0);
+    for line in file.chunks(276) {
+        assert_eq!(walk.line(line), Ok(276));
+        deposits += u64::from(line[0] == b'R');
+        notes += u64::from(line[0] == b'B');
+        let mut told = vec![walk.state[OPEN_FEIN]];
+        told.extend(&walk.state[OPEN_NOTED..FILE_SECOND]);
+        let open = b"BESR".contains(&line[0]);
+        assert_eq!(told, if open { explained } else { none });
+        assert_eq!(walk.state[FILE_OTHERS..], [deposits, notes]);
+    }
+    assert_eq!((deposits, notes), (1, 1));
+    // an E leaves the flag of a B as it was, also where there is none
+    let lines: Vec<&[u8]> = file.chunks(276).collect();
+    walk.open(FORMAT_WHAM_2020, YEAR, MONTH).unwrap();
+    for (line, noted) in [(lines[0], 0), (lines[2], 0), (lines[3], 0), (lines[1], 1)] {
+        assert_eq!(walk.line(line), Ok(276));
+        assert_eq!(walk.state[OPEN_NOTED], noted);
+    }
 }
 
 #[test]

@@ -2,9 +2,9 @@
 // acknowledgement to standard output.
 #![tactic(auto)]
 
-use edits::format::Format;
+use edits::format::{Edition, Format};
 use program::Telling;
 
 fn main(rt: HostRuntime) {
-    program::run(rt, Format::Wham2024, Telling::One);
+    program::run(rt, Format::Wham(Edition::Of2024), Telling::One);
 }

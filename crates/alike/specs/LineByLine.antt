@@ -27,14 +27,14 @@ use Rattle.record.specs.Laws.{judge_says, judged_length, alike_judged, note_judg
 use Rattle.tables.specs.Laws.{among_none}
 use Rattle.tables.specs.Room.{Room}
 use Rattle.tables.specs.Tables.{is_among}
-use Rattle.meaning.specs.Before.{phase_in, ids_under}
+use Rattle.meaning.specs.Before.{phase_in, ids_under, open_in}
 use Rattle.meaning.specs.FileLaws.{onto_nil, onto_cons, meaning_end, meaning_refuses, meaning_goes_on}
 use Rattle.meaning.specs.Meaning.{context_at, on_earlier_e, under_this_e, edits_at, judge_at, found_on, records_onto, Outcome, refused, outcome_by, meaning_from}
 use Rattle.step.specs.Steps.{Out}
 use Rattle.walk.specs.Calls.{leaves}
 use Rattle.alike.specs.Alike.{under, repeats, repeats_after, wages_of, seconds_of, id_of, AlikeLines}
 use Rattle.alike.specs.Level.{Level, Holds, SameSums, Run, shut, running, open_alike, totals_alike, context_same, context_alike}
-use Rattle.alike.specs.Onward.{holds_more, level_employee, level_note, never_zero, Other, Begins, level_other, run_other}
+use Rattle.alike.specs.Onward.{holds_more, level_employee, noted_sum, noted_second, level_note, never_zero, Other, Begins, level_other, run_other}
 use Rattle.alike.specs.Rest.{under_more, under_note, under_none, under_end, repeats_more, wages_more, wages_none, seconds_more, seconds_none, heads, line_alike, one_meets, other_meets, zero_same, of_employer_lem, rest}
 
 -- ---- what is asked of an identity number
@@ -169,12 +169,13 @@ module _ (room : Room) (held : Opening) where
     run_note : is_employee s one ≡ false → is_note s one ≡ true → (note : Note) → Run s (OfNote note ∷ p) (OfNote note ∷ q) ones others
     run_note none is note = by run where
       by : Run s p q (one ∷ ones) (other ∷ others) → Run s (OfNote note ∷ p) (OfNote note ∷ q) ones others
-      by (shut phase sum ids ids') = shut phase sum ids ids'
+      by (shut phase sum ids ids') = shut phase (rw (noted_sum note (open_in p), noted_sum note (open_in q), noted_second note (open_in p), noted_second note (open_in q)) sum) ids ids'
       by (running earlier before hp hq repeats-same sums seconds) =
           let alike = line_same s l one other same none in
           let mine = under_note s one ones none is in
           let theirs = under_note s other others (rw (← alike) none) (rw (← alike) is) in
-          running earlier before hp hq (rw (mine, theirs) at repeats-same) (rw (mine, theirs) at sums) (rw (mine, theirs) at seconds)
+          running earlier before hp hq (rw (mine, theirs) at repeats-same) (rw (noted_sum note (open_in p), noted_sum note (open_in q)) (rw (mine, theirs) at sums))
+          (rw (noted_second note (open_in p), noted_second note (open_in q)) (rw (mine, theirs) at seconds))
 
     note_line : is_employee s one ≡ false → is_note s one ≡ true
         → ((p q : List Said) → AlikeLines s ones others → Level p q → Run s p q ones others → Same p q ones others)

@@ -10,12 +10,13 @@ use Rattle.shape.specs.Shape.{Shape}
 use Rattle.shape.specs.declared.EmployeeOn.{EmployeeOn}
 use Rattle.shape.specs.declared.EmployerOn.{EmployerOn}
 use Rattle.shape.specs.declared.Note.{Note}
+use Rattle.shape.specs.declared.Note.TheVariants.{Deposit, Explanation}
 use Rattle.shape.specs.declared.Said.{Said}
 use Rattle.shape.specs.declared.Said.TheVariants.{OfA, OfE, OfS, OfT, OfF, OfNote, OfNone}
 use Rattle.tables.specs.Laws.{among_none, among_append}
 use Rattle.tables.specs.TableSteps.{among_more}
 use Rattle.tables.specs.Tables.{is_among}
-use Rattle.shape.specs.After.{and_id, one_other}
+use Rattle.shape.specs.After.{and_id, explained, open_noted, one_other, one_note}
 use Rattle.meaning.specs.Before.{ids_under}
 use Rattle.alike.specs.Alike.{under, repeats, wages_of, seconds_of}
 use Rattle.alike.specs.Level.{Level, Holds, SameSums, Run, shut, running, open_alike, totals_alike, sum_of, level_same}
@@ -77,14 +78,36 @@ never_zero (OfNote note ∷ p) = never_zero p
 never_zero (OfNone ∷ p) = among_none 0
 
 -- ---- a note, the same in both files
+-- It adds nothing to the sums under the open E.
+pub noted_sum : (note : Note) (this : Open) → (open_noted note this).sum ≡ this.sum
+noted_sum Deposit this = refl
+noted_sum (Explanation return) this = refl
+
+pub noted_second : (note : Note) (this : Open) → (open_noted note this).second ≡ this.second
+noted_second Deposit this = refl
+noted_second (Explanation return) this = refl
+
 pub level_note : (p q : List Said) (note : Note) → Level p q → Level (OfNote note ∷ p) (OfNote note ∷ q)
-level_note p q note level =
+level_note p q Deposit level =
     record {
       lines = rw level.lines;
       phase = level.phase;
       filed = level.filed;
       this = level.this;
       all = ap one_other level.all;
+      used = level.used;
+      feins = level.feins;
+      entries = level.entries;
+      sums = level.sums;
+      seconds = level.seconds;
+    }
+level_note p q (Explanation return) level =
+    record {
+      lines = rw level.lines;
+      phase = level.phase;
+      filed = level.filed;
+      this = ap (explained return) level.this;
+      all = ap one_note level.all;
       used = level.used;
       feins = level.feins;
       entries = level.entries;
@@ -109,7 +132,7 @@ Begins s one other = (repeats s (under s one) ≡ repeats s (under s other)) × 
 module _ (p q : List Said) (level : Level p q) (sum : SameSums p q) where
   sum_other : (said : Said) → Other said → sum_of (said ∷ p) ≡ sum_of (said ∷ q)
   sum_other (OfA quarter) other = rw (level.lines, totals_alike p q level sum, level.feins, level.entries)
-  sum_other (OfE employer) other = rw (level.lines, level.filed, totals_alike p q level sum, level.feins, level.entries)
+  sum_other (OfE employer) other = rw (level.lines, level.filed, totals_alike p q level sum, level.feins, level.entries, open_alike p q level sum)
   sum_other (OfS employee) other = absurd other
   sum_other OfT other = rw (level.lines, level.filed, totals_alike p q level sum, level.feins, level.entries, open_alike p q level sum)
   sum_other OfF other = rw (level.lines, level.filed, totals_alike p q level sum, level.feins, level.entries)

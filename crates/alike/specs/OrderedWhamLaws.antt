@@ -9,7 +9,8 @@ use Rattle.lines.specs.Lines.{Line, lines_of}
 use Rattle.chars.specs.Characters.{capitals}
 use Rattle.calendar.specs.declared.Quarter.{Quarter}
 use Rattle.edits.specs.Formats.{opening_with}
-use Rattle.edits.specs.declared.format.Format.TheVariants.{Wham2024}
+use Rattle.edits.specs.declared.format.Edition.{Edition}
+use Rattle.edits.specs.declared.format.Format.TheVariants.{Wham}
 use Rattle.shape.specs.Blot.{blot_keeps, employee_alike, line_same}
 use Rattle.shape.specs.Hidden.{is_employee, is_employer, is_note, blot}
 use Rattle.shape.specs.Lawful.{Lawful}
@@ -87,29 +88,34 @@ module _ (s : Shape) (l : Lawful s) (none : (line : Line) → id_of s line ≡ 0
         by true first rest = ap₂ (λ (r : List Bool) (l : List (List Bool)). r ∷ l) first rest
         by false first rest = rest
 
--- ---- the amended withholding file
-none_said : (line : Line) → id_of wham line ≡ 0
-none_said line = no_id (capitals line.text)
+-- ---- the amended withholding file, of either edition
+module _ (edition : Edition) where
+  abbrev s : Shape
+  s = wham edition
 
-module _ (one other : List ℕ) (ordered : AsOrderedWham one other) where
-  pub wham_alike : Alike wham one other
-  wham_alike =
-      let bytes = equal_blotted wham (lawful_of Wham2024) one other ordered.equal_but in
-      let lines = changed_lines (blot wham) (blot_keeps wham) one other bytes in
-      record {
-        equal_bytes = bytes;
-        own_one = ordered.own_one;
-        own_other = ordered.own_other;
-        zero_alike = zero_lines wham (lawful_of Wham2024) none_said (lines_of one) (lines_of other) lines;
-        repeat_alike = repeat_lines wham (lawful_of Wham2024) none_said (lines_of one) (lines_of other) lines;
-        wages_alike = ordered.correct_alike;
-        seconds_alike = ordered.original_alike;
-      }
+  none_said : (line : Line) → id_of s line ≡ 0
+  none_said line = no_id edition (capitals line.text)
 
-  -- "With the same quarter, table lengths and first table contents, the acknowledgement is the same byte for byte, and every lent table is left the same."
-  pub nothing_of_the_employee_in_wham : (quarter : Quarter) (t : Tables) (lend lend' : ℕ → ℕ) → Lending Wham2024 lend → Lending Wham2024 lend'
-      → walked lend (opening_with Wham2024 quarter) one t ≡ walked lend' (opening_with Wham2024 quarter) other t
-  nothing_of_the_employee_in_wham quarter = nothing_of_the_employee (opening_with Wham2024 quarter) one other wham_alike
+  module _ (one other : List ℕ) (ordered : AsOrderedWham edition one other) where
+    pub wham_alike : Alike s one other
+    wham_alike =
+        let bytes = equal_blotted s (lawful_of (Wham edition)) one other ordered.equal_but in
+        let lines = changed_lines (blot s) (blot_keeps s) one other bytes in
+        record {
+          equal_bytes = bytes;
+          own_one = ordered.own_one;
+          own_other = ordered.own_other;
+          zero_alike = zero_lines s (lawful_of (Wham edition)) none_said (lines_of one) (lines_of other) lines;
+          repeat_alike = repeat_lines s (lawful_of (Wham edition)) none_said (lines_of one) (lines_of other) lines;
+          wages_alike = ordered.correct_alike;
+          seconds_alike = ordered.original_alike;
+        }
 
-  pub acknowledgement_in_wham : (header : List ℕ) → length header ≡ header_size → acknowledgement Wham2024 (header ++ one) ≡ acknowledgement Wham2024 (header ++ other)
-  acknowledgement_in_wham = acknowledgement_alike Wham2024 one other wham_alike
+    -- "With the same quarter, table lengths and first table contents, the acknowledgement is the same byte for byte, and every lent table is left the same."
+    pub nothing_of_the_employee_in_wham : (quarter : Quarter) (t : Tables) (lend lend' : ℕ → ℕ) → Lending (Wham edition) lend → Lending (Wham edition) lend'
+        → walked lend (opening_with (Wham edition) quarter) one t ≡ walked lend' (opening_with (Wham edition) quarter) other t
+    nothing_of_the_employee_in_wham quarter = nothing_of_the_employee (opening_with (Wham edition) quarter) one other wham_alike
+
+    pub acknowledgement_in_wham : (header : List ℕ) → length header ≡ header_size
+        → acknowledgement (Wham edition) (header ++ one) ≡ acknowledgement (Wham edition) (header ++ other)
+    acknowledgement_in_wham = acknowledgement_alike (Wham edition) one other wham_alike

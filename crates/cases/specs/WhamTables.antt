@@ -1,4 +1,4 @@
--- Definitions: cases of the amended withholding file, edition 2024, as a table: each is a whole file, with what docs/formats/wham.md says of it.
+-- Definitions: cases of the amended withholding file as a table: each is a whole file under an edition, with what docs/formats/wham.md says of it.
 -- A computed example has to open the definitions that it computes with, those of crates below it too. Nothing rests on it.
 use Rattle.std.specs.Prelude.{ℕ, List, [], ◌∷◌, ◌++◌, get_or, replicate}
 use Prim.Native.String.{String}
@@ -14,15 +14,17 @@ use Rattle.chars.specs.Characters.{is_permitted, capital_of, capitals, is_blank,
 use Rattle.chars.specs.Columns.{column_test, every_column}
 use Rattle.number.specs.Letters.{letters_from, letters_in}
 use Rattle.number.specs.Numbers.{number_from, number_in, value_in}
-use Rattle.rules.specs.Rules.{period_in, flag_in}
-use Rattle.text.specs.Text.{all_blank, is_indented, is_asked, reads_as, has_pattern}
+use Rattle.rules.specs.Rules.{period_in, flag_in, begins_with69}
+use Rattle.text.specs.Text.{all_blank, is_indented, blank_from, has_blank, is_asked, reads_as, has_pattern}
 use Rattle.field.specs.Classes.{classes, class_of}
 use Rattle.edits.specs.RuleNumbers.{rule_list, rule_of}
 use Rattle.edits.specs.FieldEdits.{field_edits}
 use Rattle.edits.specs.declared.Opening.{Opening}
-use Rattle.edits.specs.declared.format.Format.TheVariants.{Wham2024}
-use Rattle.wham_fields.specs.Fields.{fields_of_a, fields_of_e, fields_of_s, fields_of_r, fields_of_t, fields_of_f}
-use Rattle.wham_fields.specs.FieldRules.{rules_of_a, rules_of_e, rules_of_s, rules_of_r, rules_of_t, rules_of_f}
+use Rattle.edits.specs.declared.format.Edition.{Edition}
+use Rattle.edits.specs.declared.format.Edition.TheVariants.{Of2024, Of2020}
+use Rattle.edits.specs.declared.format.Format.TheVariants.{Wham}
+use Rattle.wham_fields.specs.Fields.{fields_of_a, fields_of_e, fields_of_s, fields_of_r, fields_of_t, fields_of_f, fields_of_b}
+use Rattle.wham_fields.specs.FieldRules.{rules_of_a, rules_of_e, rules_of_s, rules_of_r, rules_of_t, rules_of_f, rules_of_b}
 use Rattle.wham.specs.Kinds.{kind_of}
 use Rattle.tables.specs.Tables.{is_among}
 use Rattle.tables.specs.declared.Employer.{Employer}
@@ -31,8 +33,8 @@ use Rattle.cases.specs.CaseTables.{room}
 use Rattle.cases.specs.Example.{Change, reads, changed, file_of}
 
 -- "Held quarter 202609."
-abbrev held : Opening
-held = record { format = Wham2024; year = 2026; month = 9 }
+abbrev held : Edition → Opening
+held edition = record { format = Wham edition; year = 2026; month = 9 }
 
 -- "Records by default, columns not named blank": a record of 275 characters with texts at their columns.
 abbrev line_with : List Change → List ℕ
@@ -46,6 +48,10 @@ A =
     line_with
     (at 1 "A2024010101010WHAM" ∷ at 24 "PINE PAYROLL" ∷ at 74 "1 MAIN STREET" ∷ at 114 "AUGUSTA" ∷ at 139 "ME" ∷ at 154 "04330" ∷ at 164 "A CLERK"
     ∷ at 194 "2075551212" ∷ [])
+
+-- B, with its FEIN; the account is the default one.
+abbrev B : String → List ℕ
+B fein = line_with (at 1 "B2024" ∷ at 6 fein ∷ at 15 "WHAMA CORRECTION" ∷ at 265 "12345678900" ∷ [])
 
 -- E, saying 1 or 0.
 abbrev E : String → List ℕ
@@ -74,14 +80,15 @@ T count payments due original amended =
 abbrev F : String → String → String → List ℕ
 F employees employers total = line_with (at 1 "F" ∷ at 2 employees ∷ at 12 employers ∷ at 22 "WHAM" ∷ at 41 total ∷ [])
 
--- A case: its number in the list, a file, and what the list says of the file.
+-- A case: its number in the list, the edition, a file, and what the list says of the file.
 pub record WhamCase : Type 0 where
   pub number : ℕ
+  pub edition : Edition
   pub file : List ℕ
   pub stated : Outcome
 
-abbrev case : ℕ → List (List ℕ) → Outcome → WhamCase
-case number lines stated = record { number = number; file = file_of lines; stated = stated }
+abbrev case : Edition → ℕ → List (List ℕ) → Outcome → WhamCase
+case edition number lines stated = record { number = number; edition = edition; file = file_of lines; stated = stated }
 
 -- What the definitions say of it. Where this is opened, so is all that it is computed with.
 unfoldable pub computed_wham : WhamCase → Outcome
@@ -91,12 +98,12 @@ unfolding
     is_leap month_days days_in is_last_day is_quarter_month is_after
     Codes.codes_in Codes.states Codes.provinces Codes.is_code Codes.is_among Codes.region_of
     is_permitted capital_of capitals is_blank is_digit is_letter column_test every_column
-    number_from number_in value_in letters_from letters_in period_in flag_in
-    all_blank is_indented is_asked reads_as has_pattern
-    classes class_of fields_of_a fields_of_e fields_of_s fields_of_r fields_of_t fields_of_f
-    rule_list rule_of field_edits kind_of rules_of_a rules_of_e rules_of_s rules_of_r rules_of_t rules_of_f
+    number_from number_in value_in letters_from letters_in period_in flag_in begins_with69
+    all_blank is_indented blank_from has_blank is_asked reads_as has_pattern
+    classes class_of fields_of_a fields_of_e fields_of_s fields_of_r fields_of_t fields_of_f fields_of_b
+    rule_list rule_of field_edits kind_of rules_of_a rules_of_e rules_of_s rules_of_r rules_of_t rules_of_f rules_of_b
     is_among edits_from first_of_file records_onto
-computed_wham c = meaning room held c.file
+computed_wham c = meaning room (held c.edition) c.file
 
 -- The employer's entry: the count and the correct tax of its S records; no kind of return is told.
 abbrev entry : ℕ → ℕ → Employer
@@ -108,20 +115,41 @@ two = S "000000100000" "000000123456" [] ∷ S "000000000050" "000000000044" [] 
 abbrev pub wham_table : List WhamCase
 wham_table =
     -- Two S records and an R: the entry has the correct tax, the file's second sum the original one.
-    case 1 ((A ∷ E "1" ∷ two) ++ (R "03312024" ∷ T "0000002" "00000100050" "00000000023450" "00000000100050" "00000000123500" ∷ F "0000000002" "0000000001" "000000000123500" ∷ []))
+    case Of2024 1 ((A ∷ E "1" ∷ two) ++ (R "03312024" ∷ T "0000002" "00000100050" "00000000023450" "00000000100050" "00000000123500" ∷ F "0000000002" "0000000001" "000000000123500" ∷ []))
     (accepted (entry 2 123500 ∷ []) (record { count = 2; employers = 1; sum = 123500; second = 100050; others = 1; notes = 0 })) ∷
     -- "E saying 0, without T": the next E or F closes it.
-    case 4 (A ∷ E "0" ∷ F "0000000000" "0000000001" "000000000000000" ∷ [])
+    case Of2024 4 (A ∷ E "0" ∷ F "0000000000" "0000000001" "000000000000000" ∷ [])
     (accepted (entry 0 0 ∷ []) (record { count = 0; employers = 1; sum = 0; second = 0; others = 0; notes = 0 })) ∷
-    case 5 (A ∷ E "1" ∷ E "1" ∷ []) (refused (notice 15 3 1)) ∷
-    case 5 (A ∷ E "1" ∷ F "0000000000" "0000000001" "000000000000000" ∷ []) (refused (notice 17 3 1)) ∷
-    case 5 (A ∷ E "1" ∷ T "0000000" "00000000000" "00000000000000" "00000000000000" "00000000000000" ∷ []) (refused (notice 56 3 2)) ∷
-    case 7 (A ∷ R "03312024" ∷ []) (refused (notice 12 2 1)) ∷
-    case 7 (A ∷ E "0" ∷ S "000000000000" "000000000000" [] ∷ []) (refused (notice 16 3 1)) ∷
-    case 8 (A ∷ E "1" ∷ R "03302024" ∷ []) (refused (notice 91 3 2)) ∷
+    case Of2024 5 (A ∷ E "1" ∷ E "1" ∷ []) (refused (notice 15 3 1)) ∷
+    case Of2024 5 (A ∷ E "1" ∷ F "0000000000" "0000000001" "000000000000000" ∷ []) (refused (notice 17 3 1)) ∷
+    case Of2024 5 (A ∷ E "1" ∷ T "0000000" "00000000000" "00000000000000" "00000000000000" "00000000000000" ∷ []) (refused (notice 56 3 2)) ∷
+    case Of2024 7 (A ∷ R "03312024" ∷ []) (refused (notice 12 2 1)) ∷
+    case Of2024 7 (A ∷ E "0" ∷ S "000000000000" "000000000000" [] ∷ []) (refused (notice 16 3 1)) ∷
+    case Of2024 8 (A ∷ E "1" ∷ R "03302024" ∷ []) (refused (notice 91 3 2)) ∷
     -- A credit has a hyphen in front.
-    case 10 (A ∷ E "1" ∷ S "000000000000" "000000001070" [] ∷ T "0000001" "00000010000" "-0000000008930" "00000000000000" "00000000001070" ∷ F "0000000001" "0000000001" "000000000001070" ∷ [])
+    case Of2024 10 (A ∷ E "1" ∷ S "000000000000" "000000001070" [] ∷ T "0000001" "00000010000" "-0000000008930" "00000000000000" "00000000001070" ∷ F "0000000001" "0000000001" "000000000001070" ∷ [])
     (accepted (entry 1 1070 ∷ []) (record { count = 1; employers = 1; sum = 1070; second = 0; others = 0; notes = 0 })) ∷
-    case 10 (A ∷ E "1" ∷ S "000000000000" "000000001070" [] ∷ T "0000001" "00000010000" "00000000008930" "00000000000000" "00000000001070" ∷ []) (refused (notice 57 4 123)) ∷
-    case 14 (A ∷ E "1" ∷ S "000000000000" "000000000000" (at 215 "12345678901" ∷ []) ∷ []) (refused (notice 46 3 215)) ∷
-    case 21 (A ∷ E "1" ∷ S "000000000000" "000000000000" (at 2 "900700001" ∷ []) ∷ []) (refused (notice 52 3 2)) ∷ []
+    case Of2024 10 (A ∷ E "1" ∷ S "000000000000" "000000001070" [] ∷ T "0000001" "00000010000" "00000000008930" "00000000000000" "00000000001070" ∷ []) (refused (notice 57 4 123)) ∷
+    case Of2024 14 (A ∷ E "1" ∷ S "000000000000" "000000000000" (at 215 "12345678901" ∷ []) ∷ []) (refused (notice 46 3 215)) ∷
+    case Of2024 21 (A ∷ E "1" ∷ S "000000000000" "000000000000" (at 2 "900700001" ∷ []) ∷ []) (refused (notice 52 3 2)) ∷
+    -- Edition 2020: a B before its E, T with its own totals; the file's notes are its B records.
+    case Of2020 2
+    ((A ∷ B "012345678" ∷ E "1" ∷ two)
+    ++ (R "03312024" ∷ T "0000002" "00000400000" "00000000100000" "00000000123500" "00000000500000" ∷ F "0000000002" "0000000001" "000000000123500" ∷ []))
+    (accepted (entry 2 123500 ∷ []) (record { count = 2; employers = 1; sum = 123500; second = 100050; others = 1; notes = 1 })) ∷
+    -- Without its B the T is refused; in 2024 the B is.
+    case Of2020 17 (A ∷ E "0" ∷ T "0000000" "00000000000" "00000000000000" "00000000000000" "00000000000000" ∷ []) (refused (notice 100 3 1)) ∷
+    case Of2024 3 (A ∷ B "012345678" ∷ []) (refused (notice 4 2 1)) ∷
+    -- "each edition keeps its own rule": in 2020 an E saying 0 needs its T.
+    case Of2020 4 (A ∷ B "012345678" ∷ E "0" ∷ F "0000000000" "0000000001" "000000000000000" ∷ []) (refused (notice 17 4 1)) ∷
+    -- A B of another return is refused at its E; one under an E parts no S from it.
+    case Of2020 20 (A ∷ B "012345679" ∷ E "1" ∷ []) (refused (notice 102 3 6)) ∷
+    case Of2020 17
+    (A ∷ E "1" ∷ S "000000000000" "000000000500" [] ∷ B "012345678" ∷ S "000000000000" "000000000570" []
+    ∷ T "0000002" "00000000000" "00000000001070" "00000000001070" "00000000001070" ∷ F "0000000002" "0000000001" "000000000001070" ∷ [])
+    (accepted (entry 2 1070 ∷ []) (record { count = 2; employers = 1; sum = 1070; second = 0; others = 0; notes = 1 })) ∷
+    -- A total of the S records with a hyphen is minus the rest; it is read, and refused.
+    case Of2020 12
+    (A ∷ B "012345678" ∷ E "1" ∷ S "000000000900" "000000001070" [] ∷ T "0000001" "00000000000" "00000000005000" "-0000000001070" "00000000005000" ∷ [])
+    (refused (notice 57 5 175)) ∷
+    case Of2020 21 (A ∷ B "012345678" ∷ E "1" ∷ S "000000000000" "000000000000" (at 2 "123456789" ∷ []) ∷ []) (refused (notice 52 4 2)) ∷ []

@@ -9,7 +9,7 @@ use Rattle.edits.specs.RuleNumbers.{rule_of, Around, rule_list, rule_number}
 use Rattle.edits.specs.Tests.{rules_test, field_test, field_at}
 use Rattle.edits.specs.declared.Rule.{Rule}
 use Rattle.edits.specs.declared.Rule.TheVariants.{Nothing, YearInTime, QuarterInTime, YearOfA, PeriodOfA, FeinNew, FeinOfE, DateInQuarter, IdentityNew, CountOfS, WagesOfS, FileCountOfS, FileCountOfE, FileWagesOfS, FinalIfCurrent, More}
-use Rattle.edits.specs.declared.FurtherRule.TheVariants.{YearHeld, QuarterOfE, ListRoom, AccountOfE, QuarterEnd, SecondOfS}
+use Rattle.edits.specs.declared.FurtherRule.TheVariants.{YearHeld, QuarterOfE, ListRoom, AccountOfE, QuarterEnd, SecondOfS, YearOfReturn, FeinOfReturn, FeinAndRoom, AccountOfReturn, SignedWagesOfS}
 
 -- Field k, by its row and its class.
 module _ (a : Around) (line : List ℕ) (rows : List (List ℕ)) (rules : List ℕ) (k : ℕ) (row : List ℕ) (class : Class)
@@ -51,3 +51,8 @@ rule_again (More ListRoom) = refl
 rule_again (More AccountOfE) = refl
 rule_again (More QuarterEnd) = refl
 rule_again (More SecondOfS) = refl
+rule_again (More YearOfReturn) = refl
+rule_again (More FeinOfReturn) = refl
+rule_again (More FeinAndRoom) = refl
+rule_again (More AccountOfReturn) = refl
+rule_again (More SignedWagesOfS) = refl

@@ -24,8 +24,8 @@ use Rattle.edits.specs.declared.Landmarks.{Landmarks}
 use Rattle.edits.specs.declared.Seen.{Seen}
 use Rattle.edits.specs.declared.Rule.{Rule}
 use Rattle.edits.specs.declared.Rule.TheVariants.{Nothing, YearInTime, QuarterInTime, YearOfA, PeriodOfA, FeinNew, FeinOfE, DateInQuarter, IdentityNew, CountOfS, WagesOfS, FileCountOfS, FileCountOfE, FileWagesOfS, FinalIfCurrent, More}
-use Rattle.edits.specs.declared.FurtherRule.TheVariants.{YearHeld, QuarterOfE, ListRoom, AccountOfE, QuarterEnd, SecondOfS}
-use Rattle.field.specs.declared.class.Further.TheVariants.{SocialSecurity, MaineCode, Licence, Difference}
+use Rattle.edits.specs.declared.FurtherRule.TheVariants.{YearHeld, QuarterOfE, ListRoom, AccountOfE, QuarterEnd, SecondOfS, YearOfReturn, FeinOfReturn, FeinAndRoom, AccountOfReturn, SignedWagesOfS}
+use Rattle.field.specs.declared.class.Further.TheVariants.{SocialSecurity, MaineCode, Licence, Difference, SocialSecurityOf2020, FederalNumber, Signed, FilledText, Explanation}
 
 ruleset labels = (none_labelled, more_labelled, refl, unless_labelled, blanks_labelled, digits_labelled, names_labelled, choice_labelled, fine_labelled, period_labelled, flag_labelled, entity_labelled, state_labelled, zip_labelled, extension_labelled)
 
@@ -65,6 +65,11 @@ own_labelled landmarks code (More MaineCode) line first last = search labels
 own_labelled landmarks code (More Licence) line first last = search labels
 own_labelled landmarks code (More Difference) line first last =
     more_labelled _ _ (signed_labelled line first last) tt refl (search labels)
+own_labelled landmarks code (More SocialSecurityOf2020) line first last = search labels
+own_labelled landmarks code (More FederalNumber) line first last = search labels
+own_labelled landmarks code (More Signed) line first last = more_labelled _ _ (signed_labelled line first last) tt refl none_labelled
+own_labelled landmarks code (More FilledText) line first last = search labels
+own_labelled landmarks code (More Explanation) line first last = search labels
 
 rule_labelled : (which : Rule) (landmarks : Landmarks) (around : Context) (seen : Seen) (line : List ℕ) (first v : ℕ)
     → AllLabelled (rule_edits which landmarks around seen line first v)
@@ -89,6 +94,11 @@ rule_labelled (More ListRoom) landmarks around seen line first v = search labels
 rule_labelled (More AccountOfE) landmarks around seen line first v = search labels
 rule_labelled (More QuarterEnd) landmarks around seen line first v = search labels
 rule_labelled (More SecondOfS) landmarks around seen line first v = search labels
+rule_labelled (More YearOfReturn) landmarks around seen line first v = search labels
+rule_labelled (More FeinOfReturn) landmarks around seen line first v = search labels
+rule_labelled (More FeinAndRoom) landmarks around seen line first v = search labels
+rule_labelled (More AccountOfReturn) landmarks around seen line first v = search labels
+rule_labelled (More SignedWagesOfS) landmarks around seen line first v = search labels
 
 field_labelled : (a : Around) (line row : List ℕ) (which : ℕ) → AllLabelled (edits_of a line row which)
 field_labelled a line row which =

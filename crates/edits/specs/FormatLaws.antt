@@ -4,10 +4,10 @@ use Rattle.std.proofs.lemmas.Bool.{false≢true}
 use Rattle.laws.specs.ChoiceLaws.{both_hold}
 use Rattle.calendar.specs.Quarters.{is_allowed}
 use Rattle.calendar.specs.declared.Quarter.{Quarter}
-use Rattle.edits.specs.Formats.{is_known, is_pfml, is_wham2024, quarter_held, opening_with, may_open}
+use Rattle.edits.specs.Formats.{is_known, is_pfml, quarter_held, opening_with, may_open}
 use Rattle.edits.specs.declared.Opening.{Opening}
 use Rattle.edits.specs.declared.format.Format.{Format}
-use Rattle.edits.specs.declared.format.Format.TheVariants.{Pfml, Wham2024, Unknown}
+use Rattle.edits.specs.declared.format.Format.TheVariants.{Pfml, Wham, Unknown}
 
 pub opens_known : (held : Opening) → may_open held ≡ true → is_known held.format ≡ true
 unfolding may_open
@@ -20,10 +20,5 @@ quarter_opens format quarter known allowed = rw (allowed, known)
 
 pub pfml_is : (format : Format) → is_pfml format ≡ true → format ≡ Pfml
 pfml_is Pfml e = refl
-pfml_is Wham2024 e = absurd (false≢true e)
+pfml_is (Wham edition) e = absurd (false≢true e)
 pfml_is Unknown e = absurd (false≢true e)
-
-pub wham_2024_is : (format : Format) → is_wham2024 format ≡ true → format ≡ Wham2024
-wham_2024_is Pfml e = absurd (false≢true e)
-wham_2024_is Wham2024 e = refl
-wham_2024_is Unknown e = absurd (false≢true e)

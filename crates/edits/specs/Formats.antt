@@ -3,36 +3,40 @@ use Rattle.std.specs.Prelude.{ℕ, Bool, true, false, ◌&&◌, ◌||◌, eqb, i
 use Rattle.calendar.specs.Quarters.{is_allowed}
 use Rattle.calendar.specs.declared.Quarter.{Quarter}
 use Rattle.edits.specs.declared.Opening.{Opening}
+use Rattle.edits.specs.declared.format.Edition.{Edition}
+use Rattle.edits.specs.declared.format.Edition.TheVariants.{Of2024, Of2020}
 use Rattle.edits.specs.declared.format.Format.{Format}
-use Rattle.edits.specs.declared.format.Format.TheVariants.{Pfml, Wham2024, Unknown}
+use Rattle.edits.specs.declared.format.Format.TheVariants.{Pfml, Wham, Unknown}
 
--- 0 is PFML, the wage file; 1 the amended withholding file, edition 2024; another number names none.
+-- 0 is PFML, the wage file; 1 and 2 are the amended withholding file, editions 2024 and 2020; another number names none.
 abbrev pub format_of : ℕ → Format
-format_of number = if eqb number 0 then Pfml else if eqb number 1 then Wham2024 else Unknown
+format_of number =
+    if eqb number 0 then Pfml else
+    if eqb number 1 then Wham Of2024 else
+    if eqb number 2 then Wham Of2020 else
+    Unknown
+
+abbrev pub edition_number : Edition → ℕ
+edition_number Of2024 = 1
+edition_number Of2020 = 2
 
 -- Of none, a number that names none.
 abbrev pub format_number : Format → ℕ
 format_number Pfml = 0
-format_number Wham2024 = 1
+format_number (Wham edition) = edition_number edition
 format_number Unknown = 255
 
 -- Whether it is a format.
 abbrev pub is_known : Format → Bool
 is_known Pfml = true
-is_known Wham2024 = true
+is_known (Wham edition) = true
 is_known Unknown = false
 
 -- Whether it is PFML.
 abbrev pub is_pfml : Format → Bool
 is_pfml Pfml = true
-is_pfml Wham2024 = false
+is_pfml (Wham edition) = false
 is_pfml Unknown = false
-
--- Whether it is the amended withholding file of 2024.
-abbrev pub is_wham2024 : Format → Bool
-is_wham2024 Pfml = false
-is_wham2024 Wham2024 = true
-is_wham2024 Unknown = false
 
 -- The last closed quarter that a walk is opened with; and an opening of a format and a quarter.
 abbrev pub quarter_held : Opening → Quarter

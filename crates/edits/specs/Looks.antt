@@ -5,12 +5,12 @@ use Rattle.field.specs.Classes.{class_of}
 use Rattle.field.specs.declared.class.Class.{Class}
 use Rattle.field.specs.declared.class.Class.TheVariants.{Ignored, RecordLetter, BlankSpace, Numeric, AccountNumber, Flag, ThirdQuarterFlag, Period, RequiredText, OptionalText, PersonName, EntityCode, StateCode, ZipCode, ZipExtension, TaxYear, EmployerFein, IdentityNumber, CeaseDate, More}
 use Rattle.field.specs.declared.class.Further.{Further}
-use Rattle.field.specs.declared.class.Further.TheVariants.{SocialSecurity, MaineCode, Licence, Difference}
+use Rattle.field.specs.declared.class.Further.TheVariants.{SocialSecurity, MaineCode, Licence, Difference, SocialSecurityOf2020, FederalNumber, Signed, FilledText, Explanation}
 use Rattle.edits.specs.FieldRow.{class_in, first_in, last_in}
 use Rattle.edits.specs.RuleNumbers.{rule_of}
 use Rattle.edits.specs.declared.FurtherLandmarks.{FurtherLandmarks}
 use Rattle.edits.specs.declared.FurtherRule.{FurtherRule}
-use Rattle.edits.specs.declared.FurtherRule.TheVariants.{YearHeld, QuarterOfE, ListRoom, AccountOfE, QuarterEnd, SecondOfS}
+use Rattle.edits.specs.declared.FurtherRule.TheVariants.{YearHeld, QuarterOfE, ListRoom, AccountOfE, QuarterEnd, SecondOfS, YearOfReturn, FeinOfReturn, FeinAndRoom, AccountOfReturn, SignedWagesOfS}
 use Rattle.edits.specs.declared.Landmarks.{Landmarks}
 use Rattle.edits.specs.declared.Rule.{Rule}
 use Rattle.edits.specs.declared.Rule.TheVariants.{Nothing, YearInTime, QuarterInTime, YearOfA, PeriodOfA, FeinNew, FeinOfE, DateInQuarter, IdentityNew, CountOfS, WagesOfS, FileCountOfS, FileCountOfE, FileWagesOfS, FinalIfCurrent, More as MoreRules}
@@ -34,6 +34,11 @@ module _ (shown : ℕ → Bool) where
   further_held marks Licence first last = holds marks.licensed_first marks.licensed_last && (holds first last && holds_some first 1)
   further_held marks Difference first last =
       (holds first last && holds_some first 1) && (holds marks.whole_first marks.whole_last && holds marks.part_first marks.part_last)
+  further_held marks SocialSecurityOf2020 first last = holds first last
+  further_held marks FederalNumber first last = holds first last
+  further_held marks Signed first last = holds first last && holds_some first 1
+  further_held marks FilledText first last = holds first last
+  further_held marks Explanation first last = holds first last && holds_some first 1
 
   abbrev pub own_held : Landmarks → List ℕ → Class → ℕ → ℕ → Bool
   own_held landmarks code Ignored first last = true
@@ -65,6 +70,11 @@ module _ (shown : ℕ → Bool) where
   further_rule_held marks AccountOfE first last = holds first marks.head_last && holds marks.tail_first marks.tail_last
   further_rule_held marks QuarterEnd first last = holds first last
   further_rule_held marks SecondOfS first last = holds first last
+  further_rule_held marks YearOfReturn first last = holds first last
+  further_rule_held marks FeinOfReturn first last = holds first last
+  further_rule_held marks FeinAndRoom first last = holds first last
+  further_rule_held marks AccountOfReturn first last = holds first marks.head_last && holds marks.tail_first marks.tail_last
+  further_rule_held marks SignedWagesOfS first last = holds first marks.signed_last && holds_some first 1
 
   abbrev pub rule_held : Landmarks → Rule → ℕ → ℕ → Bool
   rule_held landmarks Nothing first last = true
@@ -98,6 +108,11 @@ further_no_sum ListRoom = true
 further_no_sum AccountOfE = true
 further_no_sum QuarterEnd = true
 further_no_sum SecondOfS = false
+further_no_sum YearOfReturn = true
+further_no_sum FeinOfReturn = true
+further_no_sum FeinAndRoom = true
+further_no_sum AccountOfReturn = true
+further_no_sum SignedWagesOfS = false
 
 abbrev pub reads_no_sum : Rule → Bool
 reads_no_sum Nothing = true

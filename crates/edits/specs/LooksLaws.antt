@@ -11,20 +11,20 @@ use Rattle.laws.specs.ChoiceLaws.{both_hold}
 use Rattle.laws.specs.Lists.{any_default}
 use Rattle.laws.specs.Table.{every, at}
 use Rattle.chars.specs.Agree.{Agree, every_alike}
-use Rattle.chars.specs.Columns.{width_of}
+use Rattle.chars.specs.Columns.{width_of, every_column}
 use Rattle.chars.specs.declared.columns.Allowed.TheVariants.{Blanks, Digits, OfNames}
 use Rattle.number.specs.LetterLaws.{letters_alike}
 use Rattle.number.specs.NumberLaws.{number_alike, value_alike}
 use Rattle.number.specs.Numbers.{value_in}
 use Rattle.rules.specs.RuleLaws.{period_alike, flag_alike}
-use Rattle.text.specs.TextLaws.{pattern_alike, blank_alike, indented_alike, region_alike, zip_alike, extension_alike}
+use Rattle.text.specs.TextLaws.{pattern_alike, blank_alike, has_blank_alike, indented_alike, region_alike, zip_alike, extension_alike}
 use Rattle.text.specs.Address.{region_in}
 use Rattle.field.specs.Classes.{class_of}
 use Rattle.field.specs.ClassLaws.{class_again}
 use Rattle.field.specs.declared.class.Class.{Class}
 use Rattle.field.specs.declared.class.Class.TheVariants.{Ignored, RecordLetter, BlankSpace, Numeric, AccountNumber, Flag, ThirdQuarterFlag, Period, RequiredText, OptionalText, PersonName, EntityCode, StateCode, ZipCode, ZipExtension, TaxYear, EmployerFein, IdentityNumber, CeaseDate, More}
 use Rattle.field.specs.declared.class.Further.{Further}
-use Rattle.field.specs.declared.class.Further.TheVariants.{SocialSecurity, MaineCode, Licence, Difference}
+use Rattle.field.specs.declared.class.Further.TheVariants.{SocialSecurity, MaineCode, Licence, Difference, SocialSecurityOf2020, FederalNumber, Signed, FilledText, Explanation}
 use Rattle.edits.specs.Counted.{without_sums}
 use Rattle.edits.specs.Edit.{Edit, first_broken}
 use Rattle.edits.specs.EditLaws.{first_append}
@@ -32,7 +32,7 @@ use Rattle.edits.specs.FieldEdits.{edits_of, field_edits}
 use Rattle.edits.specs.FieldEditLaws.{fields_cons, rows_same}
 use Rattle.edits.specs.FieldLaws.{rule_again}
 use Rattle.edits.specs.FieldRow.{row, no_row, class_in, first_in, last_in}
-use Rattle.edits.specs.Further.{further_own, further_edits, is_negative, digits_from}
+use Rattle.edits.specs.Further.{further_own, further_edits, is_negative, digits_from, amount_in}
 use Rattle.edits.specs.Looks.{holds_from, holds, holds_some, further_held, own_held, further_rule_held, rule_held, row_held, further_no_sum, reads_no_sum}
 use Rattle.edits.specs.Own.{own}
 use Rattle.edits.specs.RuleNumbers.{Around, rule_number, rule_of}
@@ -40,7 +40,7 @@ use Rattle.edits.specs.WithContext.{rule_edits, with_context}
 use Rattle.edits.specs.declared.Context.{Context}
 use Rattle.edits.specs.declared.FurtherLandmarks.{FurtherLandmarks}
 use Rattle.edits.specs.declared.FurtherRule.{FurtherRule}
-use Rattle.edits.specs.declared.FurtherRule.TheVariants.{YearHeld, QuarterOfE, ListRoom, AccountOfE, QuarterEnd, SecondOfS}
+use Rattle.edits.specs.declared.FurtherRule.TheVariants.{YearHeld, QuarterOfE, ListRoom, AccountOfE, QuarterEnd, SecondOfS, YearOfReturn, FeinOfReturn, FeinAndRoom, AccountOfReturn, SignedWagesOfS}
 use Rattle.edits.specs.declared.Landmarks.{Landmarks}
 use Rattle.edits.specs.declared.Rule.{Rule}
 use Rattle.edits.specs.declared.Rule.TheVariants.{Nothing, YearInTime, QuarterInTime, YearOfA, PeriodOfA, FeinNew, FeinOfE, DateInQuarter, IdentityNew, CountOfS, WagesOfS, FileCountOfS, FileCountOfE, FileWagesOfS, FinalIfCurrent, More as MoreRules}
@@ -74,6 +74,20 @@ module _ (shown : ℕ → Bool) (u v : List ℕ) (same : SameIn shown u v) where
   behind_sign true first last here k low high = here k (omega arith) high
   behind_sign false first last here k low high = here k low high
 
+  -- So its sign, its digits and its amount are the same.
+  sign_same : (first last : ℕ) → holds_some shown first 1 ≡ true → is_negative u first last ≡ is_negative v first last
+  sign_same first last e = rw (first_same first e)
+
+  signed_same : (first last : ℕ) → holds shown first last && holds_some shown first 1 ≡ true
+      → (every_column Digits u (digits_from u first last) last ≡ every_column Digits v (digits_from v first last) last) × (amount_in u first last ≡ amount_in v first last)
+  signed_same first last e =
+      let here = both_hold _ _ e in
+      let digits = behind_sign (is_negative v first last) first last (agree first last here.0) in
+      let from = digits_from v first last in (
+        rw (sign_same first last here.1) (every_alike Digits u v from last digits),
+        rw (sign_same first last here.1) (value_alike u v from last digits),
+      )
+
   further_alike : (marks : FurtherLandmarks) (class : Further) (first last : ℕ) → further_held shown marks class first last ≡ true
       → further_own marks class u first last ≡ further_own marks class v first last
   further_alike marks SocialSecurity first last e =
@@ -86,12 +100,19 @@ module _ (shown : ℕ → Bool) (u v : List ℕ) (same : SameIn shown u v) where
       rw (value_alike u v marks.licensed_first marks.licensed_last (agree _ _ named.0), blank_alike u v first last (agree first last text.0), indented_alike u v first (agree _ _ text.1))
   further_alike marks Difference first last e =
       let parts = both_hold _ _ e in
-      let here = both_hold _ _ parts.0 in
       let others = both_hold _ _ parts.1 in
-      let sign : is_negative u first last ≡ is_negative v first last = rw (first_same first here.1) in
-      let digits = behind_sign (is_negative v first last) first last (agree first last here.0) in
-      let from = digits_from v first last in
-      rw (sign, every_alike Digits u v from last digits, value_alike u v from last digits, number_alike u v marks.whole_first marks.whole_last (agree _ _ others.0), value_alike u v marks.part_first marks.part_last (agree _ _ others.1))
+      let signed = signed_same first last parts.0 in
+      let sign = sign_same first last (both_hold (holds shown first last) (holds_some shown first 1) parts.0).1 in
+      rw (signed.0, signed.1, sign, number_alike u v marks.whole_first marks.whole_last (agree _ _ others.0), value_alike u v marks.part_first marks.part_last (agree _ _ others.1))
+  further_alike marks SocialSecurityOf2020 first last e =
+      rw (every_alike Digits u v first last (agree first last e), value_alike u v first last (agree first last e))
+  further_alike marks FederalNumber first last e =
+      rw (every_alike Digits u v first last (agree first last e), value_alike u v first last (agree first last e))
+  further_alike marks Signed first last e = rw (signed_same first last e).0
+  further_alike marks FilledText first last e = rw (blank_alike u v first last (agree first last e), has_blank_alike u v first last (agree first last e))
+  further_alike marks Explanation first last e =
+      let both = both_hold _ _ e in
+      rw (blank_alike u v first last (agree first last both.0), indented_alike u v first (agree _ _ both.1))
 
   pub own_alike : (landmarks : Landmarks) (code : List ℕ) (class : Class) (first last : ℕ) → own_held shown landmarks code class first last ≡ true
       → own landmarks code class u first last ≡ own landmarks code class v first last
@@ -146,6 +167,15 @@ module _ (shown : ℕ → Bool) (u v : List ℕ) (same : SameIn shown u v) where
         rw (letters_alike u v first marks.head_last (agree _ _ both.0), letters_alike u v marks.tail_first marks.tail_last (agree _ _ both.1))
     further_rule_alike marks QuarterEnd first last e = rw (value_alike u v first last (agree first last e))
     further_rule_alike marks SecondOfS first last e = rw (value_alike u v first last (agree first last e))
+    further_rule_alike marks YearOfReturn first last e = rw (value_alike u v first last (agree first last e))
+    further_rule_alike marks FeinOfReturn first last e = rw (value_alike u v first last (agree first last e))
+    further_rule_alike marks FeinAndRoom first last e = rw (value_alike u v first last (agree first last e))
+    further_rule_alike marks AccountOfReturn first last e =
+        let both = both_hold _ _ e in
+        rw (letters_alike u v first marks.head_last (agree _ _ both.0), letters_alike u v marks.tail_first marks.tail_last (agree _ _ both.1))
+    further_rule_alike marks SignedWagesOfS first last e =
+        let last = marks.signed_last in
+        rw ((signed_same first last e).1, sign_same first last (both_hold (holds shown first last) (holds_some shown first 1) e).1)
 
     pub rule_alike : (landmarks : Landmarks) (which : Rule) (first last : ℕ) → rule_held shown landmarks which first last ≡ true
         → with_context which landmarks here seen u first last ≡ with_context which landmarks here seen v first last
@@ -191,6 +221,11 @@ further_rule_context ListRoom e here marks text first v = refl
 further_rule_context AccountOfE e here marks text first v = refl
 further_rule_context QuarterEnd e here marks text first v = refl
 further_rule_context SecondOfS e here marks text first v = absurd (false≢true e)
+further_rule_context YearOfReturn e here marks text first v = refl
+further_rule_context FeinOfReturn e here marks text first v = refl
+further_rule_context FeinAndRoom e here marks text first v = refl
+further_rule_context AccountOfReturn e here marks text first v = refl
+further_rule_context SignedWagesOfS e here marks text first v = absurd (false≢true e)
 
 -- A rule that reads no sum says the same where the sums are left out, and asks nothing of the employer list.
 no_sum_read : (which : Rule) → reads_no_sum which ≡ true → (here : Context) (seen : Seen) (landmarks : Landmarks) (text : List ℕ) (first v : ℕ)

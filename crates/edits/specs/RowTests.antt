@@ -3,7 +3,7 @@ use Rattle.std.specs.Prelude.{ℕ, ◌+◌, Bool, false, ◌&&◌, ◌||◌, Lis
 use Rattle.field.specs.Classes.{class_number}
 use Rattle.field.specs.declared.class.Class.{Class}
 use Rattle.field.specs.declared.class.Class.TheVariants.{Ignored, RecordLetter, BlankSpace, Numeric, AccountNumber, Flag, ThirdQuarterFlag, Period, RequiredText, OptionalText, PersonName, EntityCode, StateCode, ZipCode, ZipExtension, TaxYear, EmployerFein, IdentityNumber, CeaseDate, More}
-use Rattle.field.specs.declared.class.Further.TheVariants.{SocialSecurity, MaineCode, Licence, Difference}
+use Rattle.field.specs.declared.class.Further.TheVariants.{SocialSecurity, MaineCode, Licence, Difference, SocialSecurityOf2020, FederalNumber, Signed, FilledText, Explanation}
 use Rattle.edits.specs.FieldRow.{class_in, first_in, last_in}
 
 -- The first row begins at column `from`, each next one right after the one before, and the last ends at the record's last column.
@@ -36,6 +36,11 @@ width_test (More SocialSecurity) width = eqb width 9
 width_test (More MaineCode) width = eqb width 2
 width_test (More Licence) width = leb 1 width
 width_test (More Difference) width = leb 2 width && leb width 15
+width_test (More SocialSecurityOf2020) width = eqb width 9
+width_test (More FederalNumber) width = eqb width 9
+width_test (More Signed) width = leb 2 width && leb width 15
+width_test (More FilledText) width = leb 1 width
+width_test (More Explanation) width = leb 1 width
 
 -- A column of a field that is ignored.
 unfoldable pub ignored_in : List (List ℕ) → ℕ → Bool

@@ -4,14 +4,15 @@ use Rattle.edits.specs.declared.Context.{Context}
 use Rattle.edits.specs.declared.Landmarks.{Landmarks}
 use Rattle.edits.specs.declared.Rule.{Rule}
 use Rattle.edits.specs.declared.Rule.TheVariants.{Nothing, YearInTime, QuarterInTime, YearOfA, PeriodOfA, FeinNew, FeinOfE, DateInQuarter, IdentityNew, CountOfS, WagesOfS, FileCountOfS, FileCountOfE, FileWagesOfS, FinalIfCurrent, More}
-use Rattle.edits.specs.declared.FurtherRule.TheVariants.{YearHeld, QuarterOfE, ListRoom, AccountOfE, QuarterEnd, SecondOfS}
+use Rattle.edits.specs.declared.FurtherRule.TheVariants.{YearHeld, QuarterOfE, ListRoom, AccountOfE, QuarterEnd, SecondOfS, YearOfReturn, FeinOfReturn, FeinAndRoom, AccountOfReturn, SignedWagesOfS}
 use Rattle.edits.specs.declared.Seen.{Seen}
 
 -- The rule that a list of rules names by its number, from 0 in this order; past the last there is none.
 unfoldable pub rule_list : List Rule
 rule_list =
     Nothing ∷ YearInTime ∷ QuarterInTime ∷ YearOfA ∷ PeriodOfA ∷ FeinNew ∷ FeinOfE ∷ DateInQuarter ∷ IdentityNew ∷ CountOfS ∷ WagesOfS ∷ FileCountOfS ∷
-    FileCountOfE ∷ FileWagesOfS ∷ FinalIfCurrent ∷ More YearHeld ∷ More QuarterOfE ∷ More ListRoom ∷ More AccountOfE ∷ More QuarterEnd ∷ More SecondOfS ∷ []
+    FileCountOfE ∷ FileWagesOfS ∷ FinalIfCurrent ∷ More YearHeld ∷ More QuarterOfE ∷ More ListRoom ∷ More AccountOfE ∷ More QuarterEnd ∷ More SecondOfS ∷
+    More YearOfReturn ∷ More FeinOfReturn ∷ More FeinAndRoom ∷ More AccountOfReturn ∷ More SignedWagesOfS ∷ []
 
 unfoldable pub rule_of : ℕ → Rule
 rule_of number = get_or rule_list number Nothing
@@ -38,6 +39,11 @@ rule_number (More ListRoom) = 17
 rule_number (More AccountOfE) = 18
 rule_number (More QuarterEnd) = 19
 rule_number (More SecondOfS) = 20
+rule_number (More YearOfReturn) = 21
+rule_number (More FeinOfReturn) = 22
+rule_number (More FeinAndRoom) = 23
+rule_number (More AccountOfReturn) = 24
+rule_number (More SignedWagesOfS) = 25
 
 -- What stands around a record's fields: the columns that its rules look at, the entity code, the context and what was seen.
 pub record Around : Type 0 where

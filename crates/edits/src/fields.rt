@@ -40,6 +40,11 @@ pub fn rule_of(number: u8) -> Rule
         held_by::ACCOUNT_OF_E => Rule::More(FurtherRule::AccountOfE),
         held_by::QUARTER_END => Rule::More(FurtherRule::QuarterEnd),
         held_by::SECOND_OF_S => Rule::More(FurtherRule::SecondOfS),
+        held_by::YEAR_OF_RETURN => Rule::More(FurtherRule::YearOfReturn),
+        held_by::FEIN_OF_RETURN => Rule::More(FurtherRule::FeinOfReturn),
+        held_by::FEIN_AND_ROOM => Rule::More(FurtherRule::FeinAndRoom),
+        held_by::ACCOUNT_OF_RETURN => Rule::More(FurtherRule::AccountOfReturn),
+        held_by::SIGNED_WAGES_OF_S => Rule::More(FurtherRule::SignedWagesOfS),
         _ => Rule::Nothing,
     }
 }

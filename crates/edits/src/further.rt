@@ -1,9 +1,12 @@
 // The rules of classes and of the context that PFML has not.
-ghost use Rattle.std.specs.Prelude.{◌≡◌};
+ghost use Rattle.std.specs.Prelude.{◌≡◌, not, ◌||◌};
+ghost use Rattle.laws.specs.Finding.{or_else};
 ghost use Rattle.reason.specs.ReasonNumbers.{finding_of};
 ghost use Rattle.chars.specs.Characters.{capitals};
+ghost use Rattle.chars.specs.Columns.{every_column, unless};
+ghost use Rattle.chars.specs.declared.columns.Allowed.TheVariants.{Digits};
 ghost use Rattle.edits.specs.Edit.{first_broken};
-ghost use Rattle.edits.specs.Further.{is_negative, digits_from, is_difference, is_first_e, quarter_of_e, is_account, further_edits};
+ghost use Rattle.edits.specs.Further.{is_negative, digits_from, begins_with9, is_never_filed, amount_in, is_difference, is_first_e, quarter_of_e, is_account, is_eOpen, is_begun, is_fein_of_return, is_account_of_return, further_edits};
 ghost use Rattle.edits.specs.FurtherTests.{licence_test, difference_test, further_rest};
 
 use crate::{Context, FurtherLandmarks, FurtherRule, Phase, format};
@@ -83,6 +86,24 @@ fn difference_edit(marks: FurtherLandmarks, line: &[u8], first: u16, last: u16) 
     )
 }
 
+// A number that edition 2020 lets nobody file.
+fn is_refused_2020(v: u64) -> bool
+    ensures { result ≡ (begins_with9 v || is_never_filed v) }
+{
+    if v / 100000000 == 9 {
+        return true;
+    }
+    (v == 111111111) | (v == 333333333) | (v == 123456789)
+}
+
+// Digits, or a hyphen and then digits.
+fn signed_edit(line: &[u8], first: u16, last: u16) -> Edit
+    ensures { finding_of result ≡ every_column Digits (capitals line.now) (digits_from (capitals line.now) first last) last }
+{
+    let from = digits_from(line, first, last);
+    columns::every_column(Allowed::Digits, line, from, last)
+}
+
 pub fn own_edit(marks: FurtherLandmarks, class: Further, line: &[u8], first: u16, last: u16) -> Edit
     ensures { finding_of result ≡ further_rest marks class (capitals line.now) first last }
 {
@@ -99,6 +120,19 @@ pub fn own_edit(marks: FurtherLandmarks, class: Further, line: &[u8], first: u16
         ),
         Further::Licence => licence_edit(marks, line, first, last),
         Further::Difference => difference_edit(marks, line, first, last),
+        Further::SocialSecurityOf2020 => columns::unless(
+            !is_refused_2020(number::value_in(line, first, last)),
+            first,
+            Reason::IdentityPrefix,
+        ),
+        Further::FederalNumber => columns::unless(
+            !rules::begins_with_69(number::value_in(line, first, last)),
+            first,
+            Reason::FeinPrefix,
+        ),
+        Further::Signed => signed_edit(line, first, last),
+        Further::FilledText => text::filled(line, first, last),
+        Further::Explanation => text::explanation(line, first, last),
     }
 }
 
@@ -146,6 +180,78 @@ fn is_account(here: Context, marks: FurtherLandmarks, line: &[u8], first: u16) -
     letters::letters_in(line, marks.tail_first, marks.tail_last) == open.account_tail
 }
 
+fn is_e_open(phase: Phase) -> bool
+    ensures { result ≡ is_eOpen phase }
+{
+    match phase {
+        Phase::BeforeA => false,
+        Phase::AfterA => false,
+        Phase::EOpen => true,
+        Phase::AfterT => false,
+        Phase::AfterF => false,
+    }
+}
+
+// Whether a line of the same return stands before: its E, or a record that explains it.
+fn is_begun(here: Context) -> bool
+    ensures { result ≡ is_begun here }
+{
+    let phase = here.phase;
+    if is_e_open(phase) {
+        return true;
+    }
+    let open = here.open;
+    open.noted
+}
+
+fn is_fein_of_return(here: Context, fein: u64) -> bool
+    ensures { result ≡ is_fein_of_return here fein }
+{
+    if is_begun(here) {
+        let open = here.open;
+        return fein == open.fein;
+    }
+    true
+}
+
+fn is_account_of_return(here: Context, marks: FurtherLandmarks, line: &[u8], first: u16) -> bool
+    ensures { result ≡ is_account_of_return here marks (capitals line.now) first }
+{
+    if is_begun(here) {
+        return is_account(here, marks, line, first);
+    }
+    true
+}
+
+// The FEIN of a B: that of its return.
+fn fein_of_return(here: Context, fein: u64, first: u16) -> Edit
+    ensures { finding_of result ≡ unless (is_fein_of_return here fein) first 102 }
+{
+    columns::unless(
+        is_fein_of_return(here, fein),
+        first,
+        Reason::FeinNotOfReturn,
+    )
+}
+
+// The FEIN of an E: that of its return, and there is room for it.
+fn fein_and_room(here: Context, fein: u64, first: u16) -> Edit
+    ensures { finding_of result ≡ or_else (unless (is_fein_of_return here fein) first 102) (unless (not here.list_full) first 63) }
+{
+    if is_fein_of_return(here, fein) {
+        return columns::unless(!here.list_full, first, Reason::EmployerListFull);
+    }
+    Edit::Broken(first, Reason::FeinNotOfReturn)
+}
+
+// An amount that may be negative is this sum.
+fn is_signed_sum(line: &[u8], first: u16, last: u16, sum: u64) -> bool
+    ensures { result ≡ is_difference (is_negative (capitals line.now) first last) (amount_in (capitals line.now) first last) sum 0 }
+{
+    let amount = number::value_in(line, digits_from(line, first, last), last);
+    is_difference(is_negative(line, first, last), amount, sum, 0)
+}
+
 // The edits of a rule in order; v is the field's value.
 pub fn rule_edit(
     rule: FurtherRule,
@@ -175,5 +281,22 @@ pub fn rule_edit(
             Reason::DepositNotOfQuarter,
         ),
         FurtherRule::SecondOfS => columns::unless(v == open.second, first, Reason::WagesNotOfS),
+        FurtherRule::YearOfReturn => columns::unless(
+            v == filed.year,
+            first,
+            Reason::YearNotOfReturn,
+        ),
+        FurtherRule::FeinOfReturn => fein_of_return(here, v, first),
+        FurtherRule::FeinAndRoom => fein_and_room(here, v, first),
+        FurtherRule::AccountOfReturn => columns::unless(
+            is_account_of_return(here, marks, line, first),
+            first,
+            Reason::AccountNotOfReturn,
+        ),
+        FurtherRule::SignedWagesOfS => columns::unless(
+            is_signed_sum(line, first, marks.signed_last, open.sum),
+            first,
+            Reason::WagesNotOfS,
+        ),
     }
 }

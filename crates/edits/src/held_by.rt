@@ -41,3 +41,13 @@ pub const ACCOUNT_OF_E: u8 = 18;
 pub const QUARTER_END: u8 = 19;
 
 pub const SECOND_OF_S: u8 = 20;
+
+pub const YEAR_OF_RETURN: u8 = 21;
+
+pub const FEIN_OF_RETURN: u8 = 22;
+
+pub const FEIN_AND_ROOM: u8 = 23;
+
+pub const ACCOUNT_OF_RETURN: u8 = 24;
+
+pub const SIGNED_WAGES_OF_S: u8 = 25;

@@ -31,9 +31,10 @@ pub struct Opening {
 }
 
 // The open E: its FEIN, whether it says that S records follow, and the S records under it with the
-// sum of their wages in cents. The other numbers are those of formats to come, and zero in PFML: a
-// second sum; the records under it that are no S, and the nearest of these; whether a note was
-// among them; and the account number as two numbers to the base 256.
+// sum of their wages in cents. The other numbers are those of other formats, and zero in PFML: a
+// second sum; the records under it that are no S, and the nearest of these; whether the return has
+// a record that explains it; and the account number as two numbers to the base 256. Where no E is
+// open, FEIN and account are those of such a record that came before its E.
 #[derive(Clone, Copy)]
 pub struct Open {
     pub fein: u64,
@@ -49,8 +50,8 @@ pub struct Open {
 }
 
 // The whole file so far: its S records, its E records, and the sum of all wages in cents. The other
-// numbers are those of formats to come, and zero in PFML: the second sum, the records that are no
-// S, and the notes.
+// numbers are those of other formats, and zero in PFML: the second sum, the deposits, and the
+// records that explain a return.
 #[derive(Clone, Copy)]
 pub struct Totals {
     pub count: u64,
@@ -96,7 +97,8 @@ pub struct Landmarks {
 }
 
 // The same for rules that PFML has not: the number that asks for a licence; of a difference the
-// whole and the part; and where an account number's second part begins.
+// whole and the part; where an account number's second part begins; and the last column of a total
+// that may be negative.
 #[derive(Clone, Copy)]
 pub struct FurtherLandmarks {
     pub licensed_first: u16,
@@ -108,6 +110,7 @@ pub struct FurtherLandmarks {
     pub head_last: u16,
     pub tail_first: u16,
     pub tail_last: u16,
+    pub signed_last: u16,
 }
 
 // A record that has none of these.
@@ -121,6 +124,7 @@ pub const NONE_FURTHER: FurtherLandmarks = FurtherLandmarks {
     head_last: 0,
     tail_first: 0,
     tail_last: 0,
+    signed_last: 0,
 };
 
 // The rule by which a field is held against its context.
@@ -161,4 +165,14 @@ pub enum FurtherRule {
     QuarterEnd,
     // The amount is the second sum of the S records under the open E.
     SecondOfS,
+    // The year is A's, on a record that explains.
+    YearOfReturn,
+    // The FEIN is that of the return's records before.
+    FeinOfReturn,
+    // The same, and there is room for an employer.
+    FeinAndRoom,
+    // The account is that of the return's records before.
+    AccountOfReturn,
+    // The amount, which may be negative, is the sum of the S records under the open E.
+    SignedWagesOfS,
 }

@@ -7,7 +7,7 @@ use Rattle.chars.specs.declared.columns.Allowed.{Allowed}
 use Rattle.field.specs.ClassTests.{lead_test, allowed_in, class_test}
 use Rattle.field.specs.declared.class.Class.{Class}
 use Rattle.field.specs.declared.class.Class.TheVariants.{Ignored, RecordLetter, BlankSpace, Numeric, AccountNumber, Flag, ThirdQuarterFlag, Period, RequiredText, OptionalText, PersonName, EntityCode, StateCode, ZipCode, ZipExtension, TaxYear, EmployerFein, IdentityNumber, CeaseDate, More}
-use Rattle.field.specs.declared.class.Further.TheVariants.{SocialSecurity, MaineCode, Licence, Difference}
+use Rattle.field.specs.declared.class.Further.TheVariants.{SocialSecurity, MaineCode, Licence, Difference, SocialSecurityOf2020, FederalNumber, Signed, FilledText, Explanation}
 use Rattle.field.specs.Classes.{classes, class_of, class_number}
 
 pub class_says : (class : Class) (line : List ℕ) (first last : ℕ)
@@ -60,3 +60,8 @@ class_again (More SocialSecurity) = refl
 class_again (More MaineCode) = refl
 class_again (More Licence) = refl
 class_again (More Difference) = refl
+class_again (More SocialSecurityOf2020) = refl
+class_again (More FederalNumber) = refl
+class_again (More Signed) = refl
+class_again (More FilledText) = refl
+class_again (More Explanation) = refl

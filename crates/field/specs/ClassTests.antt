@@ -8,7 +8,7 @@ use Rattle.chars.specs.declared.columns.Allowed.TheVariants.{Anything, Blanks, D
 use Rattle.field.specs.declared.class.Class.{Class}
 use Rattle.field.specs.declared.class.Class.TheVariants.{Ignored, RecordLetter, BlankSpace, Numeric, AccountNumber, Flag, ThirdQuarterFlag, Period, RequiredText, OptionalText, PersonName, EntityCode, StateCode, ZipCode, ZipExtension, TaxYear, EmployerFein, IdentityNumber, CeaseDate, More}
 use Rattle.field.specs.declared.class.Further.{Further}
-use Rattle.field.specs.declared.class.Further.TheVariants.{SocialSecurity, MaineCode, Licence, Difference}
+use Rattle.field.specs.declared.class.Further.TheVariants.{SocialSecurity, MaineCode, Licence, Difference, SocialSecurityOf2020, FederalNumber, Signed, FilledText, Explanation}
 
 -- What a field of text says before its columns are looked at. "Class tests 32 and 33 don't apply to [the state] or to ZIP fields", nor to
 -- any but these three classes.
@@ -41,6 +41,11 @@ further_allowed SocialSecurity = Digits
 further_allowed MaineCode = Digits
 further_allowed Licence = Anything
 further_allowed Difference = Anything
+further_allowed SocialSecurityOf2020 = Digits
+further_allowed FederalNumber = Digits
+further_allowed Signed = Anything
+further_allowed FilledText = Anything
+further_allowed Explanation = Anything
 
 -- What each column of a field may hold.
 abbrev pub allowed_in : Class → List ℕ → ℕ → ℕ → Allowed

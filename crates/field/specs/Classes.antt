@@ -2,14 +2,14 @@
 use Rattle.std.specs.Prelude.{ℕ, List, [], ◌∷◌, get_or}
 use Rattle.field.specs.declared.class.Class.{Class}
 use Rattle.field.specs.declared.class.Class.TheVariants.{Ignored, RecordLetter, BlankSpace, Numeric, AccountNumber, Flag, ThirdQuarterFlag, Period, RequiredText, OptionalText, PersonName, EntityCode, StateCode, ZipCode, ZipExtension, TaxYear, EmployerFein, IdentityNumber, CeaseDate, More}
-use Rattle.field.specs.declared.class.Further.TheVariants.{SocialSecurity, MaineCode, Licence, Difference}
+use Rattle.field.specs.declared.class.Further.TheVariants.{SocialSecurity, MaineCode, Licence, Difference, SocialSecurityOf2020, FederalNumber, Signed, FilledText, Explanation}
 
 -- A list of fields names a class by its number, counted from 0 in this order. A number past the last names none: such a field is ignored.
 unfoldable pub classes : List Class
 classes =
     Ignored ∷ RecordLetter ∷ BlankSpace ∷ Numeric ∷ AccountNumber ∷ Flag ∷ ThirdQuarterFlag ∷ Period ∷ RequiredText ∷ OptionalText ∷ PersonName ∷
     EntityCode ∷ StateCode ∷ ZipCode ∷ ZipExtension ∷ TaxYear ∷ EmployerFein ∷ IdentityNumber ∷ CeaseDate ∷ More SocialSecurity ∷
-    More MaineCode ∷ More Licence ∷ More Difference ∷ []
+    More MaineCode ∷ More Licence ∷ More Difference ∷ More SocialSecurityOf2020 ∷ More FederalNumber ∷ More Signed ∷ More FilledText ∷ More Explanation ∷ []
 
 unfoldable pub class_of : ℕ → Class
 class_of number = get_or classes number Ignored
@@ -38,3 +38,8 @@ class_number (More SocialSecurity) = 19
 class_number (More MaineCode) = 20
 class_number (More Licence) = 21
 class_number (More Difference) = 22
+class_number (More SocialSecurityOf2020) = 23
+class_number (More FederalNumber) = 24
+class_number (More Signed) = 25
+class_number (More FilledText) = 26
+class_number (More Explanation) = 27

@@ -65,6 +65,16 @@ pub enum Further {
     Licence,
     // An amount that may be negative, the difference of two others of the record.
     Difference,
+    // A social security number that is none of three numbers more.
+    SocialSecurityOf2020,
+    // A FEIN or EIN that never begins with 69.
+    FederalNumber,
+    // An amount that may be negative.
+    Signed,
+    // Text with no blank in it.
+    FilledText,
+    // The text that explains an adjustment.
+    Explanation,
 }
 
 // The number of each class, by which a list of fields names it.
@@ -114,6 +124,16 @@ pub const LICENCE: u16 = 21;
 
 pub const DIFFERENCE: u16 = 22;
 
+pub const SOCIAL_SECURITY_OF_2020: u16 = 23;
+
+pub const FEDERAL_NUMBER: u16 = 24;
+
+pub const SIGNED: u16 = 25;
+
+pub const FILLED_TEXT: u16 = 26;
+
+pub const EXPLANATION: u16 = 27;
+
 // The class of a number.
 pub fn class_of(number: u16) -> Class
     ensures { result ≡ class_of number }
@@ -142,6 +162,11 @@ pub fn class_of(number: u16) -> Class
         20 => Class::More(Further::MaineCode),
         21 => Class::More(Further::Licence),
         22 => Class::More(Further::Difference),
+        23 => Class::More(Further::SocialSecurityOf2020),
+        24 => Class::More(Further::FederalNumber),
+        25 => Class::More(Further::Signed),
+        26 => Class::More(Further::FilledText),
+        27 => Class::More(Further::Explanation),
         _ => Class::Ignored,
     }
 }
@@ -211,6 +236,11 @@ fn further_allowed(further: Further) -> Allowed
         Further::MaineCode => Allowed::Digits,
         Further::Licence => Allowed::Anything,
         Further::Difference => Allowed::Anything,
+        Further::SocialSecurityOf2020 => Allowed::Digits,
+        Further::FederalNumber => Allowed::Digits,
+        Further::Signed => Allowed::Anything,
+        Further::FilledText => Allowed::Anything,
+        Further::Explanation => Allowed::Anything,
     }
 }
 

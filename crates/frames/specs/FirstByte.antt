@@ -4,7 +4,7 @@ use Rattle.std.proofs.Common.{sym, ap, ◌∙◌, arith}
 use Rattle.reason.specs.ReasonNumbers.{Notice}
 use Rattle.edits.specs.declared.Totals.{Totals}
 use Rattle.edits.specs.declared.format.Format.{Format}
-use Rattle.edits.specs.declared.format.Format.TheVariants.{Pfml, Wham2024, Unknown}
+use Rattle.edits.specs.declared.format.Format.TheVariants.{Pfml, Wham, Unknown}
 use Rattle.tables.specs.declared.Employer.{Employer}
 use Rattle.meaning.specs.Meaning.{accepted, refused}
 use Rattle.frames.specs.Frames.{employer_frames, frames_of, first_byte}
@@ -14,7 +14,7 @@ pub accepted_begins : (format : Format) (entries : List Employer) (totals : Tota
 unfolding employer_frames hex hex_digit
 accepted_begins format [] totals = refl
 accepted_begins Pfml (e ∷ entries) totals = refl
-accepted_begins Wham2024 (e ∷ entries) totals = refl
+accepted_begins (Wham edition) (e ∷ entries) totals = refl
 accepted_begins Unknown (e ∷ entries) totals = refl
 
 pub refused_begins : (format : Format) (says : Notice) → first_byte (frames_of format (refused says)) ≡ 70

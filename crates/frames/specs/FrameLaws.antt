@@ -7,7 +7,7 @@ use Rattle.std.proofs.Common.{◌∙◌, add_comm, mul-zero, mul-suc, le_trans, 
 use Rattle.reason.specs.ReasonNumbers.{Notice}
 use Rattle.edits.specs.declared.Totals.{Totals}
 use Rattle.edits.specs.declared.format.Format.{Format}
-use Rattle.edits.specs.declared.format.Format.TheVariants.{Pfml, Wham2024, Unknown}
+use Rattle.edits.specs.declared.format.Format.TheVariants.{Pfml, Wham, Unknown}
 use Rattle.tables.specs.Pad.{pad}
 use Rattle.tables.specs.PadLaws.{take_pad}
 use Rattle.tables.specs.Tables.{no_employer}
@@ -26,13 +26,13 @@ three_length kind a b cents = simp (length-append, hex_length)
 
 pub employer_length : (format : Format) (e : Employer) → length (employer_frame format e) ≡ employer_size format
 employer_length Pfml e = simp (length-append, hex_length)
-employer_length Wham2024 e = simp (length-append, hex_length)
+employer_length (Wham edition) e = simp (length-append, hex_length)
 employer_length Unknown e = simp (length-append, hex_length)
 
 -- No format has a longer frame than the wage file.
 pub frames_most : (format : Format) (n : ℕ) → employer_size format * n ≤ 47 * n
 frames_most Pfml n = omega arith
-frames_most Wham2024 n = omega arith
+frames_most (Wham edition) n = omega arith
 frames_most Unknown n = omega arith
 
 pub frames_length : (format : Format) (list : List Employer) → length (employer_frames format list) ≡ employer_size format * length list

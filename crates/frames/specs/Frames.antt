@@ -3,7 +3,7 @@ use Rattle.std.specs.Prelude.{ℕ, ◌+◌, ◌*◌, Bool, true, false, List, []
 use Rattle.reason.specs.ReasonNumbers.{Notice}
 use Rattle.edits.specs.declared.Totals.{Totals}
 use Rattle.edits.specs.declared.format.Format.{Format}
-use Rattle.edits.specs.declared.format.Format.TheVariants.{Pfml, Wham2024, Unknown}
+use Rattle.edits.specs.declared.format.Format.TheVariants.{Pfml, Wham, Unknown}
 use Rattle.tables.specs.Room.{Room}
 use Rattle.tables.specs.declared.Employer.{Employer}
 use Rattle.meaning.specs.Meaning.{Outcome, accepted, refused}
@@ -29,13 +29,13 @@ employer_frame Pfml e =
     three_numbers 2 e.fein e.count e.cents ++ hex 2 e.amended ++ hex 2 e.final_return ++ hex 8 e.cease_date ++ line_end
 -- Document 01's frame: "01, FEIN (4 bytes), S count (4), cents (8), one for each employer". Other formats keep it. A number that names no format has it too,
 -- and no walk of it is accepted.
-employer_frame Wham2024 e = three_numbers 1 e.fein e.count e.cents ++ line_end
+employer_frame (Wham edition) e = three_numbers 1 e.fein e.count e.cents ++ line_end
 employer_frame Unknown e = three_numbers 1 e.fein e.count e.cents ++ line_end
 
 -- Its length: 23 bytes in two digits each, and LF; document 01's has 17 bytes.
 abbrev pub employer_size : Format → ℕ
 employer_size Pfml = 47
-employer_size Wham2024 = 35
+employer_size (Wham edition) = 35
 employer_size Unknown = 35
 
 unfoldable pub employer_frames : Format → List Employer → List ℕ

@@ -91,7 +91,7 @@ fn put_employer(format: Format, out: &mut [u8], i: usize, e: Employer)
 {
     match format {
         Format::Pfml => put_pfml_employer(out, 47 * i, e),
-        Format::Wham2024 => put_short_frame(out, 35 * i, 1, e.fein, e.count, e.cents),
+        Format::Wham(_) => put_short_frame(out, 35 * i, 1, e.fein, e.count, e.cents),
         Format::Unknown => put_short_frame(out, 35 * i, 1, e.fein, e.count, e.cents),
     }
 }
@@ -116,7 +116,7 @@ fn employers_size(format: Format, n: usize) -> usize
 {
     match format {
         Format::Pfml => 47 * n,
-        Format::Wham2024 => 35 * n,
+        Format::Wham(_) => 35 * n,
         Format::Unknown => 35 * n,
     }
 }

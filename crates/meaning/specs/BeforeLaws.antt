@@ -1,6 +1,7 @@
 -- Laws: the employer list's entries: one for each E record, with its FEIN.
 use Rattle.std.specs.Prelude.{ℕ, ◌+◌, List, [], ◌∷◌, ◌++◌, ◌≡◌, refl, length}
 use Rattle.std.proofs.Common.{ap, ◌∙◌, length-append}
+use Rattle.shape.specs.declared.Note.TheVariants.{Deposit, Explanation}
 use Rattle.shape.specs.declared.Said.{Said}
 use Rattle.shape.specs.declared.Said.TheVariants.{OfA, OfE, OfS, OfT, OfF, OfNote, OfNone}
 use Rattle.tables.specs.Last.{closed_many, closed_feins}
@@ -15,7 +16,8 @@ entries_many (OfE employer ∷ p) = length-append (entries_in p) _ ∙ ap (λ (n
 entries_many (OfS employee ∷ p) = entries_many p
 entries_many (OfT ∷ p) = closed_many _ _ (entries_in p) ∙ entries_many p
 entries_many (OfF ∷ p) = entries_many p
-entries_many (OfNote note ∷ p) = entries_many p
+entries_many (OfNote Deposit ∷ p) = entries_many p
+entries_many (OfNote (Explanation return) ∷ p) = entries_many p
 entries_many (OfNone ∷ p) = entries_many p
 
 pub entries_feins : (p : List Said) → feins_of (entries_in p) ≡ feins_in p

@@ -21,16 +21,17 @@ use Rattle.shape.specs.EndOfInputLaws.{end_test, end_parts}
 use Rattle.shape.specs.declared.EmployeeOn.{EmployeeOn}
 use Rattle.shape.specs.declared.EmployerOn.{EmployerOn}
 use Rattle.shape.specs.declared.Note.{Note}
+use Rattle.shape.specs.declared.Note.TheVariants.{Deposit, Explanation}
 use Rattle.shape.specs.declared.Said.{Said}
 use Rattle.shape.specs.declared.Said.TheVariants.{OfA, OfE, OfS, OfT, OfF, OfNote, OfNone}
 use Rattle.tables.specs.Last.{closed_behind}
 use Rattle.tables.specs.Room.{Room}
 use Rattle.tables.specs.Tables.{closed_last}
 use Rattle.tables.specs.declared.Employer.{Employer}
-use Rattle.shape.specs.After.{opened, entry_at_e, with_one, no_totals, one_employer, one_employee, one_other}
+use Rattle.shape.specs.After.{opened, entry_at_e, with_one, open_noted, no_totals, one_employer, one_employee, totals_noted}
 use Rattle.meaning.specs.Before.{phase_in, open_in, totals_in, entries_in}
 use Rattle.meaning.specs.FileLaws.{records_reversed, meaning_end, meaning_refuses, meaning_goes_on}
-use Rattle.meaning.specs.Forward.{records_of, employees_after, wages_of, seconds_of, entry_of, employers_of, employees_of, notes_of, totals_of}
+use Rattle.meaning.specs.Forward.{records_of, employees_after, wages_of, seconds_of, entry_of, employers_of, employees_of, notes_of, deposits_in, explanations_in, totals_of}
 use Rattle.meaning.specs.Meaning.{context_at, on_earlier_e, under_this_e, judge_at, file_edits, FileFinding, nothing, found, found_on, first_of_file, records_onto, accepted, outcome_by, meaning_from, meaning}
 use Rattle.meaning.specs.Theorems.{not_refused}
 
@@ -42,7 +43,7 @@ InPlace phase follow (OfE employer) = (phase ≡ AfterA) ⊎ EndsE phase follow
 InPlace phase follow (OfS employee) = (phase ≡ EOpen) × (follow ≡ true)
 InPlace phase follow OfT = phase ≡ EOpen
 InPlace phase follow OfF = EndsE phase follow
-InPlace phase follow (OfNote note) = phase ≡ EOpen
+InPlace phase follow (OfNote note) = Unit {0}
 InPlace phase follow OfNone = ⊥
 
 -- The records to come, in file order, stand each in its place after those before; F is the last.
@@ -67,7 +68,7 @@ module _ (room : Room) (held : Opening) where
   in_place p (OfS employee) fits = (fits.0, fits.1)
   in_place p OfT fits = fits
   in_place p OfF fits = fits
-  in_place p (OfNote note) fits = fits.0
+  in_place p (OfNote note) fits = tt
   in_place p OfNone fits = fits
 
   -- No line of an accepted file is refused.
@@ -116,9 +117,9 @@ abbrev closed_with : Open → List Employer → List Employer
 closed_with this entries = closed_last this.count this.sum entries
 
 -- The entry of an E, closed with all that comes under it.
-closed_with_all : (employer : EmployerOn) (employees : List EmployeeOn) (front : List Employer)
-    → closed_with (with_all (opened employer) employees) (front ++ (entry_at_e employer ∷ [])) ≡ front ++ (entry_of employer employees ∷ [])
-closed_with_all employer employees front =
+closed_with_all : (employer : EmployerOn) (noted : Bool) (employees : List EmployeeOn) (front : List Employer)
+    → closed_with (with_all (opened employer noted) employees) (front ++ (entry_at_e employer ∷ [])) ≡ front ++ (entry_of employer employees ∷ [])
+closed_with_all employer noted employees front =
     closed_behind _ _ front (entry_at_e employer) ∙ simp zero-add
 
 -- The entries before, that of an open E as its T will close it.
@@ -139,7 +140,8 @@ quiet_after p (OfE employer) place quiet e f = closed_behind 0 0 (entries_in p) 
 quiet_after p (OfS employee) place quiet e f = absurd (false≢true (sym f ∙ place.1))
 quiet_after p OfT place quiet e f = let z : ◌≡◌ {A = ℕ} 0 1 = cc in absurd (omega arith)
 quiet_after p OfF place quiet e f = let z : ◌≡◌ {A = ℕ} 0 1 = cc in absurd (omega arith)
-quiet_after p (OfNote note) place quiet e f = quiet e f
+quiet_after p (OfNote Deposit) place quiet e f = quiet e f
+quiet_after p (OfNote (Explanation return)) place quiet e f = quiet e f
 quiet_after p OfNone place quiet e f = absurd place
 
 -- Where an E has ended nothing is to be closed.
@@ -151,6 +153,16 @@ none_open : (p : List Said) → (phase_in p ≡ AfterA) ⊎ EndsE (phase_in p) (
     → to_be_closed (phase_in p) (with_all (open_in p) []) (entries_in p) ≡ entries_in p
 none_open p (inl first) quiet = rw first
 none_open p (inr ends) quiet = ended p ends quiet
+
+-- A note changes neither the count nor the sum of the open E.
+noted_alike : (note : Note) (phase : Phase) (this : Open) (employees : List EmployeeOn) (entries : List Employer)
+    → to_be_closed phase (with_all (open_noted note this) employees) entries ≡ to_be_closed phase (with_all this employees) entries
+noted_alike Deposit phase this employees entries = refl
+noted_alike (Explanation return) BeforeA this employees entries = refl
+noted_alike (Explanation return) AfterA this employees entries = refl
+noted_alike (Explanation return) EOpen this employees entries = refl
+noted_alike (Explanation return) AfterT this employees entries = refl
+noted_alike (Explanation return) AfterF this employees entries = refl
 
 abbrev entries_before : List Said → List EmployeeOn → List Employer
 entries_before p employees = to_be_closed (phase_in p) (with_all (open_in p) employees) (entries_in p)
@@ -165,7 +177,7 @@ entries_at_end p (OfE employer ∷ records) quiet placed =
     let employees = employees_after records in
     rw (none_open p placed.0 quiet)
     (entries_at_end (OfE employer ∷ p) records (quiet_after p (OfE employer) placed.0 quiet) placed.1
-    ∙ ap (λ (l : List Employer). l ++ employers_of records) (closed_with_all employer employees (entries_in p))
+    ∙ ap (λ (l : List Employer). l ++ employers_of records) (closed_with_all employer (open_in p).noted employees (entries_in p))
     ∙ append_snoc (entries_in p) (entry_of employer employees) (employers_of records))
 entries_at_end p (OfS employee ∷ records) quiet placed =
     rw placed.0.0
@@ -177,7 +189,9 @@ entries_at_end p (OfT ∷ records) quiet placed =
     ∙ ap (λ (this : Open). closed_with this (entries_in p) ++ employers_of records) (sym (with_none_left (open_in p))))
 entries_at_end p (OfF ∷ records) quiet placed =
     rw (ended p placed.0 quiet) (entries_at_end (OfF ∷ p) records (quiet_after p OfF placed.0 quiet) placed.1)
-entries_at_end p (OfNote note ∷ records) quiet placed = entries_at_end (OfNote note ∷ p) records (quiet_after p (OfNote note) placed.0 quiet) placed.1
+entries_at_end p (OfNote note ∷ records) quiet placed =
+    entries_at_end (OfNote note ∷ p) records (quiet_after p (OfNote note) placed.0 quiet) placed.1
+    ∙ ap (λ (entries : List Employer). entries ++ employers_of records) (noted_alike note (phase_in p) (open_in p) (employees_after records) (entries_in p))
 entries_at_end p (OfNone ∷ records) quiet placed = absurd placed.0
 
 -- ---- the totals
@@ -216,9 +230,12 @@ employee_more employee all records =
     let second : all.second + employee.second + seconds_of employees ≡ all.second + (employee.second + seconds_of employees) = omega arith in
     cc
 
-note_more : (note : Note) (all : Totals) (records : List Said) → together (one_other all) (totals_of records) ≡ together all (totals_of (OfNote note ∷ records))
-note_more note all records =
-    let others : all.others + 1 + length (notes_of records) ≡ all.others + length (notes_of (OfNote note ∷ records)) = omega arith in
+note_more : (note : Note) (all : Totals) (records : List Said) → together (totals_noted note all) (totals_of records) ≡ together all (totals_of (OfNote note ∷ records))
+note_more Deposit all records =
+    let others : all.others + 1 + deposits_in (notes_of records) ≡ all.others + (1 + deposits_in (notes_of records)) = omega arith in
+    cc
+note_more (Explanation return) all records =
+    let notes : all.notes + 1 + explanations_in (notes_of records) ≡ all.notes + (1 + explanations_in (notes_of records)) = omega arith in
     cc
 
 -- The totals at the end: those before, and those of the records to come.

@@ -7,6 +7,7 @@ use Rattle.edits.specs.declared.format.Format.{Format}
 use Rattle.shape.specs.declared.EmployeeOn.{EmployeeOn}
 use Rattle.shape.specs.declared.EmployerOn.{EmployerOn}
 use Rattle.shape.specs.declared.Note.{Note}
+use Rattle.shape.specs.declared.Note.TheVariants.{Deposit, Explanation}
 use Rattle.shape.specs.declared.Said.{Said}
 use Rattle.shape.specs.declared.Said.TheVariants.{OfA, OfE, OfS, OfT, OfF, OfNote, OfNone}
 use Rattle.tables.specs.declared.Employer.{Employer}
@@ -71,7 +72,7 @@ employees_of (OfF ∷ records) = employees_of records
 employees_of (OfNote note ∷ records) = employees_of records
 employees_of (OfNone ∷ records) = employees_of records
 
--- The records under an E that are no S.
+-- The records beside E and S: deposits and explanations.
 abbrev pub notes_of : List Said → List Note
 notes_of [] = []
 notes_of (OfNote note ∷ records) = note ∷ notes_of records
@@ -82,6 +83,16 @@ notes_of (OfT ∷ records) = notes_of records
 notes_of (OfF ∷ records) = notes_of records
 notes_of (OfNone ∷ records) = notes_of records
 
+abbrev pub deposits_in : List Note → ℕ
+deposits_in [] = 0
+deposits_in (Deposit ∷ notes) = 1 + deposits_in notes
+deposits_in (Explanation return ∷ notes) = deposits_in notes
+
+abbrev pub explanations_in : List Note → ℕ
+explanations_in [] = 0
+explanations_in (Deposit ∷ notes) = explanations_in notes
+explanations_in (Explanation return ∷ notes) = 1 + explanations_in notes
+
 abbrev pub totals_of : List Said → Totals
 totals_of records =
     record {
@@ -89,6 +100,6 @@ totals_of records =
       employers = length (employers_of records);
       sum = wages_of (employees_of records);
       second = seconds_of (employees_of records);
-      others = length (notes_of records);
-      notes = 0;
+      others = deposits_in (notes_of records);
+      notes = explanations_in (notes_of records);
     }

@@ -25,6 +25,7 @@ pfml_shape =
       most_lines = most_lines;
       most_cents = most_cents;
       most_others = 0;
+      most_notes = 0;
       unfit_more = λ ids used is_open all this. ids_unfit ids used is_open;
       quarter_unfit = quarter_unfit;
       is_left = is_left;

@@ -29,6 +29,7 @@ said_by Employer text =
       files = false;
       year = 0;
       month = 0;
+      joins = false;
     })
 said_by Employee text = OfS (record { id = value_at text identity_of_s; wages = value_at text wages_of_s; second = 0 })
 said_by Total text = OfT

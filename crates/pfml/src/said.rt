@@ -35,6 +35,7 @@ fn employer_on(line: &[u8]) -> Said
         files: false,
         year: 0,
         month: 0,
+        joins: false,
     })
 }
 

@@ -5,7 +5,7 @@ use Rattle.reason.specs.declared.Edit.{Edit}
 use Rattle.reason.specs.declared.Edit.TheVariants.{Passed, Broken}
 use Rattle.reason.specs.declared.Reason.{Reason}
 use Rattle.reason.specs.declared.Refusal.{Refusal}
-use Rattle.reason.specs.declared.Reason.TheVariants.{LineLength, NoLineEnd, BadCharacter, UnknownLetter, EndsBeforeA, EndsAfterA, EndsWithEOpen, EndsWithoutF, BeforeA, SecondA, SWithoutE, TWithoutE, FWithoutE, EWhileEOpen, SUnderZeroE, FWhileEOpen, SecondT, SecondF, BehindF, NotDigit, NotBlank, TextMissing, TextIndented, NotEntityCode, UnknownState, BadZip, BadZipExtension, YearTooEarly, YearTooLate, BadPeriod, PeriodTooLate, YearNotOfA, PeriodNotOfA, FeinPrefix, FeinRepeated, FeinNotOfE, BadFlag, NoDate, DateOutsideQuarter, DateNotFinal, DateMissing, IdentityPrefix, IdentityRepeated, BadNameCharacter, CountNotOfS, NoneUnderE, WagesNotOfS, FileCountNotOfS, FileCountNotOfE, FileWagesNotOfS, TooManyS, IdTableFull, EmployerListFull, FeinZero, NotFinal, BadQuarter, WalkEnded, StateUnfit, UnknownFormat, NotToBeWritten, NoneToTotal, SumTooLarge, SliceLength, BuildLength, ValueTooLong, DepositNotOfQuarter}
+use Rattle.reason.specs.declared.Reason.TheVariants.{LineLength, NoLineEnd, BadCharacter, UnknownLetter, EndsBeforeA, EndsAfterA, EndsWithEOpen, EndsWithoutF, BeforeA, SecondA, SWithoutE, TWithoutE, FWithoutE, EWhileEOpen, SUnderZeroE, FWhileEOpen, SecondT, SecondF, BehindF, NotDigit, NotBlank, TextMissing, TextIndented, NotEntityCode, UnknownState, BadZip, BadZipExtension, YearTooEarly, YearTooLate, BadPeriod, PeriodTooLate, YearNotOfA, PeriodNotOfA, FeinPrefix, FeinRepeated, FeinNotOfE, BadFlag, NoDate, DateOutsideQuarter, DateNotFinal, DateMissing, IdentityPrefix, IdentityRepeated, BadNameCharacter, CountNotOfS, NoneUnderE, WagesNotOfS, FileCountNotOfS, FileCountNotOfE, FileWagesNotOfS, TooManyS, IdTableFull, EmployerListFull, FeinZero, NotFinal, BadQuarter, WalkEnded, StateUnfit, UnknownFormat, NotToBeWritten, NoneToTotal, SumTooLarge, SliceLength, BuildLength, ValueTooLong, DepositNotOfQuarter, ExplanationMisplaced, YearNotOfReturn, FeinNotOfReturn, ExplanationMissing, AccountNotOfReturn}
 
 abbrev pub number_of : Reason → ℕ
 number_of LineLength = 1
@@ -74,6 +74,11 @@ number_of SliceLength = 83
 number_of BuildLength = 84
 number_of ValueTooLong = 85
 number_of DepositNotOfQuarter = 91
+number_of ExplanationMisplaced = 100
+number_of YearNotOfReturn = 101
+number_of FeinNotOfReturn = 102
+number_of ExplanationMissing = 103
+number_of AccountNotOfReturn = 104
 
 -- Every reason.
 abbrev pub reasons : List Reason
@@ -84,7 +89,7 @@ reasons =
     FeinPrefix ∷ FeinRepeated ∷ FeinNotOfE ∷ BadFlag ∷ NoDate ∷ DateOutsideQuarter ∷ DateNotFinal ∷ DateMissing ∷ IdentityPrefix ∷ IdentityRepeated ∷
     BadNameCharacter ∷ CountNotOfS ∷ NoneUnderE ∷ WagesNotOfS ∷ FileCountNotOfS ∷ FileCountNotOfE ∷ FileWagesNotOfS ∷ TooManyS ∷ IdTableFull ∷
     EmployerListFull ∷ FeinZero ∷ NotFinal ∷ BadQuarter ∷ WalkEnded ∷ StateUnfit ∷ UnknownFormat ∷ NotToBeWritten ∷ NoneToTotal ∷ SumTooLarge ∷ SliceLength ∷ BuildLength ∷ ValueTooLong ∷
-    DepositNotOfQuarter ∷ []
+    DepositNotOfQuarter ∷ ExplanationMisplaced ∷ YearNotOfReturn ∷ FeinNotOfReturn ∷ ExplanationMissing ∷ AccountNotOfReturn ∷ []
 
 -- The first of them that has a number; where none has it, the reason of 72.
 unfoldable pub having_number : ℕ → List Reason → Reason
@@ -122,6 +127,6 @@ abbrev from : ℕ → ℕ → List ℕ
 from first zero = []
 from first (suc count) = first ∷ from (suc first) count
 
--- The numbers that a reason has: 1 to 8, 10 to 20, 30 to 65, 70 to 73, 80 to 85.
+-- The numbers that a reason has: 1 to 8, 10 to 20, 30 to 65, 70 to 73, 80 to 85, 91, 100 to 104.
 unfoldable pub listed : List ℕ
-listed = from 1 8 ++ from 10 11 ++ from 30 36 ++ from 70 4 ++ from 80 6
+listed = from 1 8 ++ from 10 11 ++ from 30 36 ++ from 70 4 ++ from 80 6 ++ from 91 1 ++ from 100 5

@@ -4,8 +4,8 @@
 ghost use Rattle.std.specs.Prelude.{◌≡◌};
 ghost use Rattle.reason.specs.ReasonNumbers.{number_of, reason_of, is_listed};
 
-// One reason for each number of the paper's table, for 64 and 65 of document 02, and for 73, which
-// the formats bring. The number of a reason is `number_of`, and `reason_of` the way back: nothing
+// One reason for each number of the paper's table, and for those that document 02 gives to its
+// requests. The number of a reason is `number_of`, and `reason_of` the way back: nothing
 // else goes by cases on the reasons.
 #[derive(Clone, Copy)]
 pub enum Reason {
@@ -141,6 +141,16 @@ pub enum Reason {
     ValueTooLong,
     // 91: A deposit's quarter is not the file's.
     DepositNotOfQuarter,
+    // 100: A B missing or out of place.
+    ExplanationMisplaced,
+    // 101: A B's year is not A's.
+    YearNotOfReturn,
+    // 102: A B's or an E's FEIN is not that of its return.
+    FeinNotOfReturn,
+    // 103: A B's explanation is all blank.
+    ExplanationMissing,
+    // 104: A B's or an E's account is not that of its return.
+    AccountNotOfReturn,
 }
 
 // A refusal: a place together with the reason. Line and column are counted from 1.
@@ -229,6 +239,11 @@ pub fn number_of(reason: Reason) -> u8
         Reason::BuildLength => 84,
         Reason::ValueTooLong => 85,
         Reason::DepositNotOfQuarter => 91,
+        Reason::ExplanationMisplaced => 100,
+        Reason::YearNotOfReturn => 101,
+        Reason::FeinNotOfReturn => 102,
+        Reason::ExplanationMissing => 103,
+        Reason::AccountNotOfReturn => 104,
     }
 }
 
@@ -303,6 +318,11 @@ pub fn reason_of(number: u64) -> Reason
         84 => Reason::BuildLength,
         85 => Reason::ValueTooLong,
         91 => Reason::DepositNotOfQuarter,
+        100 => Reason::ExplanationMisplaced,
+        101 => Reason::YearNotOfReturn,
+        102 => Reason::FeinNotOfReturn,
+        103 => Reason::ExplanationMissing,
+        104 => Reason::AccountNotOfReturn,
         _ => Reason::StateUnfit,
     }
 }

@@ -14,7 +14,7 @@ use Rattle.edits.specs.declared.Phase.{Phase}
 use Rattle.edits.specs.declared.Phase.TheVariants.{EOpen}
 use Rattle.edits.specs.declared.Seen.{Seen}
 use Rattle.edits.specs.declared.format.Format.{Format}
-use Rattle.edits.specs.declared.format.Format.TheVariants.{Pfml, Wham2024, Unknown}
+use Rattle.edits.specs.declared.format.Format.TheVariants.{Pfml, Wham, Unknown}
 use Rattle.shape.specs.After.{phase_after, filed_after, open_after, used_after, totals_after}
 use Rattle.shape.specs.Among.{judge_says_by, judged_size_by, passed_fits_by, passed_bounded_by, quarter_kept_by, more_kept_by, passed_positive_by, passed_length_by, refusal_left_by, end_left_by, asked_of_bytes_by, judge_lent_by}
 use Rattle.shape.specs.EndOfInput.{end_edits}
@@ -30,14 +30,13 @@ use Rattle.shape.specs.NoFormatLawful.{no_lawful}
 use Rattle.pfml.specs.Format.{pfml_shape}
 use Rattle.pfml.specs.PfmlLawful.{pfml_lawful}
 use Rattle.wham.specs.WhamLawful.{wham_lawful}
-use Rattle.wham_fields.specs.declared.Edition.TheVariants.{Of2024}
 use Rattle.record.specs.ShapeOf.{shape_of}
 use Rattle.record.specs.Judge.{record_on, judge, seen_on, edits_among, judge_among}
 
 -- Every format is lawful.
 pub lawful_of : (format : Format) → Lawful (shape_of format)
 lawful_of Pfml = pfml_lawful
-lawful_of Wham2024 = wham_lawful Of2024
+lawful_of (Wham edition) = wham_lawful edition
 lawful_of Unknown = no_lawful
 
 -- What the record on any line says is small.

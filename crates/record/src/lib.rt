@@ -17,7 +17,6 @@ use edits::{Context, Open, Opening, Phase, Seen, Totals};
 use lines::Cut;
 use reason::{Edit, Reason};
 use shape::{Asking, Said, Verdict};
-use wham_fields::Edition;
 
 // How many characters a line has.
 pub fn length_of(format: Format) -> u16
@@ -25,7 +24,7 @@ pub fn length_of(format: Format) -> u16
 {
     match format {
         Format::Pfml => pfml_fields::RECORD,
-        Format::Wham2024 => wham_fields::RECORD,
+        Format::Wham(_) => wham_fields::RECORD,
         Format::Unknown => 1,
     }
 }
@@ -36,7 +35,7 @@ pub fn most_lines(format: Format) -> u32
 {
     match format {
         Format::Pfml => pfml::fitness::MOST_LINES,
-        Format::Wham2024 => wham::fitness::most_lines(Edition::Of2024),
+        Format::Wham(edition) => wham::fitness::most_lines(edition),
         Format::Unknown => 231074,
     }
 }
@@ -47,7 +46,7 @@ pub fn most_cents(format: Format) -> u64
 {
     match format {
         Format::Pfml => pfml::fitness::MOST_CENTS,
-        Format::Wham2024 => wham::fitness::MOST_CENTS,
+        Format::Wham(_) => wham::fitness::MOST_CENTS,
         Format::Unknown => 99999999999999,
     }
 }
@@ -66,7 +65,7 @@ pub fn unfit_more(
 {
     match format {
         Format::Pfml => pfml::fitness::ids_unfit(ids, used, is_open),
-        Format::Wham2024 => wham::fitness::second_unfit(is_open, all, e),
+        Format::Wham(_) => wham::fitness::second_unfit(is_open, all, e),
         Format::Unknown => false,
     }
 }
@@ -78,7 +77,7 @@ pub fn quarter_unfit(phase: Phase, held: Opening, filed: Quarter) -> bool
     let format = held.format;
     match format {
         Format::Pfml => pfml::fitness::quarter_unfit(phase, held, filed),
-        Format::Wham2024 => wham::fitness::quarter_unfit(phase, held, filed),
+        Format::Wham(_) => wham::fitness::quarter_unfit(phase, held, filed),
         Format::Unknown => false,
     }
 }
@@ -98,7 +97,7 @@ pub fn is_left(format: Format, number: u8) -> bool
 {
     match format {
         Format::Pfml => pfml::fitness::is_left(number),
-        Format::Wham2024 => wham::fitness::is_left(Edition::Of2024, number),
+        Format::Wham(edition) => wham::fitness::is_left(edition, number),
         Format::Unknown => is_of_line(number),
     }
 }
@@ -109,7 +108,7 @@ fn text_edit(format: Format, here: Context, seen: Seen, line: &[u8]) -> Edit
 {
     match format {
         Format::Pfml => pfml::text_edit(here, seen, line),
-        Format::Wham2024 => wham::text_edit(Edition::Of2024, here, seen, line),
+        Format::Wham(edition) => wham::text_edit(edition, here, seen, line),
         Format::Unknown => Edit::Broken(1, Reason::UnknownLetter),
     }
 }
@@ -120,7 +119,7 @@ pub fn said_on(format: Format, line: &[u8]) -> Said
 {
     match format {
         Format::Pfml => pfml::said_on(line),
-        Format::Wham2024 => wham::said_on(line),
+        Format::Wham(edition) => wham::said_on(edition, line),
         Format::Unknown => Said::OfNone,
     }
 }
@@ -131,7 +130,7 @@ pub fn fein_asked(format: Format, line: &[u8]) -> Asking
 {
     match format {
         Format::Pfml => pfml::fein_asked(line),
-        Format::Wham2024 => wham::fein_asked(line),
+        Format::Wham(edition) => wham::fein_asked(edition, line),
         Format::Unknown => shape::asks_nothing(),
     }
 }
@@ -142,7 +141,7 @@ pub fn id_asked(format: Format, line: &[u8]) -> Asking
 {
     match format {
         Format::Pfml => pfml::id_asked(line),
-        Format::Wham2024 => wham::id_asked(line),
+        Format::Wham(edition) => wham::id_asked(edition, line),
         Format::Unknown => shape::asks_nothing(),
     }
 }

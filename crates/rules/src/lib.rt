@@ -52,7 +52,7 @@ pub fn read_flag(line: &[u8], column: u16) -> Number
     Number::Refused(column, Reason::BadFlag)
 }
 
-fn begins_with_69(fein: u64) -> bool
+pub fn begins_with_69(fein: u64) -> bool
     ensures { result ≡ begins_with69 fein }
 {
     fein / 10000000 == 69

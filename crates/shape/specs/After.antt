@@ -1,6 +1,6 @@
 -- Definitions: what one record makes of each thing that the lines after it are judged by.
 -- The meaning of a file takes these steps record by record, and so does the walk.
-use Rattle.std.specs.Prelude.{ℕ, ◌+◌, false, List, [], ◌∷◌, ◌++◌, eqb, if◌then◌else◌}
+use Rattle.std.specs.Prelude.{ℕ, ◌+◌, Bool, true, false, ◌&&◌, List, [], ◌∷◌, ◌++◌, eqb, if◌then◌else◌}
 use Rattle.calendar.specs.declared.Quarter.{Quarter}
 use Rattle.edits.specs.Counted.{open_with, totals_with}
 use Rattle.edits.specs.declared.Open.{Open}
@@ -10,6 +10,9 @@ use Rattle.edits.specs.declared.Totals.{Totals}
 use Rattle.tables.specs.declared.Employer.{Employer}
 use Rattle.shape.specs.declared.EmployeeOn.{EmployeeOn}
 use Rattle.shape.specs.declared.EmployerOn.{EmployerOn}
+use Rattle.shape.specs.declared.Note.{Note}
+use Rattle.shape.specs.declared.Note.TheVariants.{Deposit, Explanation}
+use Rattle.shape.specs.declared.ReturnOn.{ReturnOn}
 use Rattle.shape.specs.declared.Said.{Said}
 use Rattle.shape.specs.declared.Said.TheVariants.{OfA, OfE, OfS, OfT, OfF, OfNote, OfNone}
 
@@ -40,7 +43,7 @@ filed_after (OfNote note) filed = filed
 filed_after OfNone filed = filed
 
 -- The open E: what it says, and the number and the amounts of the S records under it. "The S records under an E are those after it with no
--- other line between."
+-- other line between." `noted`: the return has a record that explains it, which in a format that has them may stand before its E.
 abbrev pub none_open : Open
 none_open =
     record {
@@ -56,8 +59,8 @@ none_open =
       account_tail = 0;
     }
 
-abbrev pub opened : EmployerOn → Open
-opened employer =
+abbrev pub opened : EmployerOn → Bool → Open
+opened employer noted =
     record {
       fein = employer.fein;
       follow = employer.follow;
@@ -66,7 +69,7 @@ opened employer =
       second = 0;
       others = 0;
       nearest = 0;
-      noted = false;
+      noted = employer.joins && noted;
       account_head = employer.account_head;
       account_tail = employer.account_tail;
     }
@@ -87,13 +90,33 @@ entry_at_e employer =
 abbrev pub with_one : EmployeeOn → Open → Open
 with_one employee this = open_with this (this.count + 1) (this.sum + employee.wages) (this.second + employee.second)
 
+-- A deposit leaves it as it is; an explanation says whose return it is. (Where a line of the same return stands before, both are the same by its edits.)
+abbrev pub explained : ReturnOn → Open → Open
+explained return this =
+    record {
+      fein = return.fein;
+      follow = this.follow;
+      count = this.count;
+      sum = this.sum;
+      second = this.second;
+      others = this.others;
+      nearest = this.nearest;
+      noted = true;
+      account_head = return.account_head;
+      account_tail = return.account_tail;
+    }
+
+abbrev pub open_noted : Note → Open → Open
+open_noted Deposit this = this
+open_noted (Explanation return) this = explained return this
+
 abbrev pub open_after : Said → Open → Open
 open_after (OfA quarter) this = none_open
-open_after (OfE employer) this = opened employer
+open_after (OfE employer) this = opened employer this.noted
 open_after (OfS employee) this = with_one employee this
 open_after OfT this = none_open
 open_after OfF this = none_open
-open_after (OfNote note) this = this
+open_after (OfNote note) this = open_noted note this
 open_after OfNone this = none_open
 
 -- The identity numbers under the open E, in file order; "000000000 means applied for"; "only such numbers take room": others than zero.
@@ -122,7 +145,7 @@ used_after OfF used = 0
 used_after (OfNote note) used = used
 used_after OfNone used = 0
 
--- The whole file: its S records, its E records, the amounts of all S records, and the records under an E that are no S.
+-- The whole file: its S records, its E records, the amounts of all S records, its deposits and its explanations.
 abbrev pub no_totals : Totals
 no_totals = record { count = 0; employers = 0; sum = 0; second = 0; others = 0; notes = 0 }
 
@@ -143,13 +166,28 @@ one_other all =
       notes = all.notes;
     }
 
+abbrev pub one_note : Totals → Totals
+one_note all =
+    record {
+      count = all.count;
+      employers = all.employers;
+      sum = all.sum;
+      second = all.second;
+      others = all.others;
+      notes = all.notes + 1;
+    }
+
+abbrev pub totals_noted : Note → Totals → Totals
+totals_noted Deposit all = one_other all
+totals_noted (Explanation return) all = one_note all
+
 abbrev pub totals_after : Said → Totals → Totals
 totals_after (OfA quarter) all = all
 totals_after (OfE employer) all = one_employer all
 totals_after (OfS employee) all = one_employee employee all
 totals_after OfT all = all
 totals_after OfF all = all
-totals_after (OfNote note) all = one_other all
+totals_after (OfNote note) all = totals_noted note all
 totals_after OfNone all = all
 
 -- The FEINs of the E records, in file order.

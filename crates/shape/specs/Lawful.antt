@@ -37,7 +37,7 @@ pub record Lawful (s : Shape) : Type 0 where
   pub ends_left : (s.is_left 5 ≡ true) × (s.is_left 6 ≡ true) × (s.is_left 7 ≡ true) × (s.is_left 8 ≡ true)
   pub others_not_left : (s.is_left 0 ≡ false) × (s.is_left 70 ≡ false) × (s.is_left 71 ≡ false) × (s.is_left 72 ≡ false) × (s.is_left 73 ≡ false)
   -- ---- 72: its bounds leave room for an accepted file's lines, and sums and lines for one more
-  pub lines_allowed : 231074 + s.most_others ≤ s.most_lines
+  pub lines_allowed : 231074 + s.most_others + s.most_notes ≤ s.most_lines
   pub lines_small : s.most_lines < 4294967295
   pub cents_small : s.most_cents ≤ 99999999999999
   -- a walk that is not unfit is not unfit after a record that passes: its quarter, and the clauses of the format's own

@@ -15,6 +15,7 @@ no_shape =
       most_lines = 231074;
       most_cents = 99999999999999;
       most_others = 0;
+      most_notes = 0;
       unfit_more = λ ids used is_open all this. false;
       quarter_unfit = λ phase held filed. false;
       is_left = λ number. leb 1 number && leb number 8;

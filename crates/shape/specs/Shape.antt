@@ -30,8 +30,9 @@ pub record Shape : Type 0 where
   -- 72: the most lines that are read, and the most cents that one record says of an amount
   pub most_lines : ℕ
   pub most_cents : ℕ
-  -- the most records of a file that stand under an E and are no S
+  -- the most deposits of a file, and the most explanations
   pub most_others : ℕ
+  pub most_notes : ℕ
   -- 72: clauses of the format's own, by the length of the id table, the ids in use, whether an E is open, the file's numbers and the open E's
   pub unfit_more : ℕ → ℕ → Bool → Totals → Open → Bool
   -- 72: whether the quarter that a file reports is none that the format allows, by where the walk stands, what it was opened with, and that quarter

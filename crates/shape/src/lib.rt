@@ -19,8 +19,9 @@ pub const MOST_EMPLOYEES: u64 = 100000;
 
 // An E record: its FEIN, whether that may stand on no other E, whether S records follow; what its
 // entry takes over: the flags of an amended and of a final return, and the cease date; the account
-// number as two numbers to the base 256; and whether it tells the quarter that the file reports,
-// and that quarter. What a format has not is 0 or false.
+// number as two numbers to the base 256; whether it tells the quarter that the file reports, and
+// that quarter; and whether what explains its return may stand before it. What a format has not is
+// 0 or false.
 #[derive(Clone, Copy)]
 pub struct EmployerOn {
     pub fein: u64,
@@ -34,6 +35,7 @@ pub struct EmployerOn {
     pub files: bool,
     pub year: u64,
     pub month: u64,
+    pub joins: bool,
 }
 
 // An S record: the identity number, the wages in cents, and a second amount in cents, 0 in a format
@@ -45,12 +47,23 @@ pub struct EmployeeOn {
     pub second: u64,
 }
 
-// A record under an E that is no S: it changes neither the place nor the tables, and parts no E
-// from the S records under it.
+// A record that explains a return: the return's FEIN, and its account number as two numbers to the
+// base 256.
+#[derive(Clone, Copy)]
+pub struct ReturnOn {
+    pub fein: u64,
+    pub account_head: u64,
+    pub account_tail: u64,
+}
+
+// A record beside E and S: it changes neither the place nor the tables, and parts no E from the S
+// records under it.
 #[derive(Clone, Copy)]
 pub enum Note {
-    // A payment that was made.
+    // R: a payment that was made.
     Deposit,
+    // B: why the return is amended.
+    Explanation(ReturnOn),
 }
 
 // What a record says to the walk; a line of no record says nothing.

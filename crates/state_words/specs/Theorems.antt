@@ -9,7 +9,8 @@ use Rattle.tables.specs.Room.{Room}
 use Rattle.edits.specs.Formats.{format_of, format_number}
 use Rattle.edits.specs.declared.Phase.TheVariants.{BeforeA, AfterA, EOpen, AfterT, AfterF}
 use Rattle.edits.specs.declared.format.Format.{Format}
-use Rattle.edits.specs.declared.format.Format.TheVariants.{Pfml, Wham2024, Unknown as NoFormat}
+use Rattle.edits.specs.declared.format.Edition.TheVariants.{Of2024, Of2020}
+use Rattle.edits.specs.declared.format.Format.TheVariants.{Pfml, Wham, Unknown as NoFormat}
 use Rattle.state.specs.Once.{same_walk}
 use Rattle.state.specs.Unfit.{is_left, unfit}
 use Rattle.state.specs.UnfitLaws.{left_not_72, fit_standing}
@@ -29,7 +30,8 @@ flag_back false = refl
 
 format_back : (format : Format) → format_of (format_number format) ≡ format
 format_back Pfml = refl
-format_back Wham2024 = refl
+format_back (Wham Of2024) = refl
+format_back (Wham Of2020) = refl
 format_back NoFormat = refl
 
 standing_back : (stage : Stage) (rest : List ℕ) → HeldStanding (standing_of stage) → standing_in (standing_words (standing_of stage) ++ rest) ≡ some (standing_of stage)

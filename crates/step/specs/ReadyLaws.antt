@@ -11,6 +11,7 @@ use Rattle.shape.specs.Fits.{Fits, Bounded, SecondFits}
 use Rattle.shape.specs.Limits.{most_employees}
 use Rattle.shape.specs.Shape.{Shape, passed}
 use Rattle.shape.specs.declared.EmployeeOn.{EmployeeOn}
+use Rattle.shape.specs.declared.Note.TheVariants.{Deposit, Explanation}
 use Rattle.shape.specs.declared.Said.{Said}
 use Rattle.shape.specs.declared.Said.TheVariants.{OfA, OfE, OfS, OfT, OfF, OfNote, OfNone}
 use Rattle.record.specs.ShapeOf.{shape_of}
@@ -70,7 +71,9 @@ module _ (room : Room) (walk : Walk) (phase : Phase) (stands : walk.standing ≡
   ready_for short (OfS employee) fits bounded second = ready_S short employee fits bounded (second fits.0)
   ready_for short OfT fits bounded second = (under_E fits).some
   ready_for short OfF fits bounded second = tt
-  ready_for short (OfNote note) fits bounded second =
+  ready_for short (OfNote Deposit) fits bounded second =
+      omega (arith, fits.1, (lawful_of walk.held.format).lines_allowed, (lawful_of walk.held.format).lines_small)
+  ready_for short (OfNote (Explanation return)) fits bounded second =
       omega (arith, fits.1, (lawful_of walk.held.format).lines_allowed, (lawful_of walk.held.format).lines_small)
   ready_for short OfNone fits bounded second = tt
 

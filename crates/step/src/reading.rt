@@ -2,11 +2,11 @@
 // writes.
 ghost use Rattle.std.specs.Prelude.{◌<◌, false, ◌≡◌};
 ghost use Rattle.lines.specs.Lines.{first_line};
-ghost use Rattle.shape.specs.After.{filed_after, entry_at_e, with_one, one_employee};
+ghost use Rattle.shape.specs.After.{filed_after, entry_at_e, with_one, one_employee, open_noted, totals_noted};
 ghost use Rattle.state.specs.Unfit.{unfit};
 ghost use Rattle.state.specs.Walks.{reading, walk_of};
 ghost use Rattle.step.specs.Moves.{moved_by, all_well, after as after_of, goes_on, context_of, by_standing, line_seen};
-ghost use Rattle.step.specs.Ready.{Ready};
+ghost use Rattle.step.specs.Ready.{ReadyNote, Ready};
 
 use crate::{Answer, Change, Move, Reply};
 use calendar::Quarter;
@@ -88,6 +88,7 @@ fn employer(st: State, taken: usize, e: EmployerOn) -> Move
     ensures { moved_by result ≡ goes_on (walk_of st) taken (Said.OfE e) }
 {
     let all = st.all;
+    let before = st.open;
     let open = Open {
         fein: e.fein,
         follow: e.follow,
@@ -96,7 +97,7 @@ fn employer(st: State, taken: usize, e: EmployerOn) -> Move
         second: 0,
         others: 0,
         nearest: 0,
-        noted: false,
+        noted: e.joins & before.noted,
         account_head: e.account_head,
         account_tail: e.account_tail,
     };
@@ -184,23 +185,61 @@ fn last(st: State, taken: usize) -> Move
     moves(next, taken, Change::Nothing)
 }
 
-// A record under an E that is no S.
-fn noted(st: State, taken: usize, note: Note) -> Move
-    requires { Ready (walk_of st) (Said.OfNote note) }
-    ensures { moved_by result ≡ goes_on (walk_of st) taken (Said.OfNote note) }
+// The open E after a note: whose return a B explains.
+fn open_noted(note: Note, e: Open) -> Open
+    ensures { result ≡ open_noted note e }
 {
-    let all = st.all;
-    let totals = Totals {
+    match note {
+        Note::Deposit => e,
+        Note::Explanation(this) => Open {
+            fein: this.fein,
+            follow: e.follow,
+            count: e.count,
+            sum: e.sum,
+            second: e.second,
+            others: e.others,
+            nearest: e.nearest,
+            noted: true,
+            account_head: this.account_head,
+            account_tail: this.account_tail,
+        },
+    }
+}
+
+// The file's numbers with so many deposits and explanations.
+fn with_notes(all: Totals, others: u64, notes: u64) -> Totals
+    ensures { result ≡ record { count = all.count; employers = all.employers; sum = all.sum; second = all.second; others = others; notes = notes } }
+{
+    Totals {
         count: all.count,
         employers: all.employers,
         sum: all.sum,
         second: all.second,
-        others: all.others + 1,
-        notes: all.notes,
-    };
+        others,
+        notes,
+    }
+}
+
+fn totals_noted(note: Note, all: Totals) -> Totals
+    requires { ReadyNote all note }
+    ensures { result ≡ totals_noted note all }
+{
+    match note {
+        Note::Deposit => with_notes(all, all.others + 1, all.notes),
+        Note::Explanation(_) => with_notes(all, all.others, all.notes + 1),
+    }
+}
+
+// A record beside E and S.
+fn noted(st: State, taken: usize, note: Note) -> Move
+    requires { Ready (walk_of st) (Said.OfNote note) }
+    ensures { moved_by result ≡ goes_on (walk_of st) taken (Said.OfNote note) }
+{
+    let totals = totals_noted(note, st.all);
+    let open = open_noted(note, st.open);
     let stage = st.stage;
     let phase = state::phase_of(stage);
-    let next = after(st, phase, st.filed, st.open, totals, st.used);
+    let next = after(st, phase, st.filed, open, totals, st.used);
     moves(next, taken, Change::Nothing)
 }
 

@@ -1,8 +1,8 @@
 -- Definitions: fields of text.
-use Rattle.std.specs.Prelude.{ℕ, ◌-◌, Bool, true, ◌&&◌, List, [], ◌∷◌, eqb, get_or, drop, if◌then◌else◌}
+use Rattle.std.specs.Prelude.{ℕ, zero, suc, ◌+◌, ◌-◌, Bool, true, false, not, ◌&&◌, ◌||◌, List, [], ◌∷◌, eqb, get_or, drop, if◌then◌else◌}
 use Rattle.laws.specs.Finding.{Finding, fine, broken}
 use Rattle.chars.specs.Characters.{is_blank, is_digit, is_letter}
-use Rattle.chars.specs.Columns.{every_column, is_fine, unless}
+use Rattle.chars.specs.Columns.{width_of, every_column, is_fine, unless}
 use Rattle.chars.specs.declared.columns.Allowed.TheVariants.{Blanks}
 
 unfoldable pub all_blank : List ℕ → ℕ → ℕ → Bool
@@ -26,6 +26,22 @@ required_text line first last = text_test (broken first 32) line first last
 -- "Optional text: all blank passes; first column blank otherwise 33."
 abbrev pub optional_text : List ℕ → ℕ → ℕ → Finding
 optional_text line first last = text_test fine line first last
+
+-- Document 02, (vii): a B's explanation: all blank 103; first column blank otherwise 33.
+abbrev pub explanation_text : List ℕ → ℕ → ℕ → Finding
+explanation_text line first last = text_test (broken first 103) line first last
+
+-- A column of the field is blank: one of n from a place on.
+unfoldable pub blank_from : List ℕ → ℕ → ℕ → Bool
+blank_from line at zero = false
+blank_from line at (suc n) = is_blank (get_or line at 0) || blank_from line (at + 1) n
+
+unfoldable pub has_blank : List ℕ → ℕ → ℕ → Bool
+has_blank line first last = blank_from line (first - 1) (width_of first last)
+
+-- "Must be entire 11 characters": all blank 32; any column blank otherwise 33.
+unfoldable pub filled_text : List ℕ → ℕ → ℕ → Finding
+filled_text line first last = if all_blank line first last then broken first 32 else unless (not (has_blank line first last)) first 33
 
 -- A character as a pattern asks for it: d stands for a digit and l for a letter, since a line read in capitals holds no small letter; any other
 -- stands for itself.

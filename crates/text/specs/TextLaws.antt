@@ -1,8 +1,10 @@
 -- Laws: what later layers cite of text, of patterns and of addresses.
-use Rattle.std.specs.Prelude.{ℕ, ◌+◌, ◌-◌, ◌<◌, ◌≤◌, zero, suc, ◌≡◌, refl, Bool, true, false, not, ◌||◌, List, [], ◌∷◌, eqb, length, get_or, drop, if◌then◌else◌}
+use Prim.Native.Nat.{ℕ, ◌+◌, ◌-◌, ◌<◌, ◌≤◌, zero, suc}
+use Rattle.std.specs.Prelude.{◌≡◌, refl, Bool, true, false, not, ◌||◌, List, [], ◌∷◌, eqb, length, get_or, drop, if◌then◌else◌}
 use Rattle.std.proofs.Math.Path.{sym}
-use Rattle.std.proofs.Common.{ap, ap₂, ◌∙◌, add-zero, not-suc-le-zero, arith, drop_of_length-le, drop-cons, eqb-true, eq-eqb, ne_eqb}
+use Rattle.std.proofs.Common.{ap, ap₂, ◌∙◌, add-zero, not-suc-le-zero, drop_of_length-le, drop-cons, eqb-true, eq-eqb, ne_eqb}
 use Rattle.std.proofs.Math.Numerals.{add-one}
+use native.Mathlib.Omega.{arith}
 use Rattle.std.proofs.Math.Seq.{drop-drop, get_or-drop}
 use Rattle.laws.specs.ChoiceLaws.{both_hold}
 use Rattle.laws.specs.Finding.{Finding, fine, broken, or_else}
@@ -17,7 +19,7 @@ use Rattle.chars.specs.Columns.{allowed_test, every_column, is_fine, unless}
 use Rattle.chars.specs.ColumnLaws.{column_says, unless_labelled, fine_columns, columns_fine, blank_column}
 use Rattle.chars.specs.declared.columns.Allowed.TheVariants.{Blanks}
 use Rattle.text.specs.Address.{region_in, state_test, zip_test, extension_test}
-use Rattle.text.specs.Text.{all_blank, is_indented, text_test, required_text, optional_text, is_asked, reads_as, has_pattern, entity_test}
+use Rattle.text.specs.Text.{all_blank, is_indented, text_test, required_text, optional_text, explanation_text, blank_from, has_blank, filled_text, is_asked, reads_as, has_pattern, entity_test}
 
 -- ---- a pattern from the symbol i on
 module _ (text pattern : List ℕ) (i : ℕ) where
@@ -174,12 +176,17 @@ module _ (line : List ℕ) (first last : ℕ) (ink : get_or line (first - 1) 0 �
   unfolding is_indented
   ink_not_indented = not_blank line (first - 1) ink
 
--- ---- required and optional text, edit by edit
-required_tests : (blank indented : Bool) (first : ℕ)
-    → (if blank then broken first 32 else if indented then broken first 33 else fine) ≡ or_else (unless (not blank) first 32) (unless (not indented) first 33)
-required_tests true indented first = refl
-required_tests false true first = refl
-required_tests false false first = refl
+-- ---- required and optional text, edit by edit; a field that is all blank has a number of its own
+required_tests : (missing : ℕ) (blank indented : Bool) (first : ℕ)
+    → (if blank then broken first missing else if indented then broken first 33 else fine) ≡ or_else (unless (not blank) first missing) (unless (not indented) first 33)
+required_tests missing true indented first = refl
+required_tests missing false true first = refl
+required_tests missing false false first = refl
+
+filled_tests : (blank some : Bool) (first : ℕ)
+    → (if blank then broken first 32 else unless (not some) first 33) ≡ or_else (unless (not blank) first 32) (unless (not some) first 33)
+filled_tests true some first = refl
+filled_tests false some first = refl
 
 optional_tests : (blank indented : Bool) (first : ℕ)
     → (if blank then fine else if indented then broken first 33 else fine) ≡ unless (blank || not indented) first 33
@@ -191,12 +198,46 @@ module _ (line : List ℕ) (first last : ℕ) where
   -- "Required text: all blank 32; first column blank otherwise 33."
   pub required_parts : required_text line first last ≡ or_else (unless (not (all_blank line first last)) first 32) (unless (not (is_indented line first)) first 33)
   unfolding text_test
-  required_parts = required_tests (all_blank line first last) (is_indented line first) first
+  required_parts = required_tests 32 (all_blank line first last) (is_indented line first) first
 
   -- "Optional text: all blank passes; first column blank otherwise 33."
   pub optional_parts : optional_text line first last ≡ unless (all_blank line first last || not (is_indented line first)) first 33
   unfolding text_test
   optional_parts = optional_tests (all_blank line first last) (is_indented line first) first
+
+  -- A B's explanation: all blank 103; first column blank otherwise 33.
+  pub explanation_parts : explanation_text line first last ≡ or_else (unless (not (all_blank line first last)) first 103) (unless (not (is_indented line first)) first 33)
+  unfolding text_test
+  explanation_parts = required_tests 103 (all_blank line first last) (is_indented line first) first
+
+  -- A text without a blank: all blank 32; any column blank otherwise 33.
+  pub filled_parts : filled_text line first last ≡ or_else (unless (not (all_blank line first last)) first 32) (unless (not (has_blank line first last)) first 33)
+  unfolding filled_text
+  filled_parts = filled_tests (all_blank line first last) (has_blank line first last) first
+
+-- ---- a blank among a field's columns, as a loop looks for one
+module _ (line : List ℕ) (at end : ℕ) where
+  pub blank_done : end ≤ at → blank_from line at (end - at) ≡ false
+  unfolding blank_from
+  blank_done h = let none : end - at ≡ 0 = omega arith in rw none
+
+  pub blank_here : at < end → is_blank (get_or line at 0) ≡ true → blank_from line at (end - at) ≡ true
+  unfolding blank_from
+  blank_here h is = let some : end - at ≡ suc (end - (at + 1)) = omega arith in rw (some, is)
+
+  pub blank_next : at < end → is_blank (get_or line at 0) ≡ false → blank_from line at (end - at) ≡ blank_from line (at + 1) (end - (at + 1))
+  unfolding blank_from
+  blank_next h is = let some : end - at ≡ suc (end - (at + 1)) = omega arith in rw (some, is)
+
+blanks_alike : (u v : List ℕ) (n at : ℕ) → ((k : ℕ) → at ≤ k → k < at + n → get_or u k 0 ≡ get_or v k 0) → blank_from u at n ≡ blank_from v at n
+unfolding blank_from
+blanks_alike u v zero at same = refl
+blanks_alike u v (suc n) at same =
+    rw (same at (omega arith) (omega arith), blanks_alike u v n (at + 1) (λ k low high. same k (omega arith) (omega arith)))
+
+pub has_blank_alike : (u v : List ℕ) (first last : ℕ) → Agree u v first last → has_blank u first last ≡ has_blank v first last
+unfolding has_blank
+has_blank_alike u v first last agree = blanks_alike u v (last - (first - 1)) (first - 1) (λ k low high. agree k low (omega arith))
 
 -- ---- the labels of the refusals
 pub entity_labelled : (code line : List ℕ) (first : ℕ) → Labelled 34 first first (entity_test code line first)

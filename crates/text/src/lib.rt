@@ -8,7 +8,7 @@ ghost use Rattle.std.specs.Prelude.{◌≡◌, ◌||◌, not, ◌-◌, drop};
 ghost use Rattle.reason.specs.ReasonNumbers.{finding_of, number_of};
 ghost use Rattle.chars.specs.Characters.{capitals};
 ghost use Rattle.chars.specs.Columns.{unless};
-ghost use Rattle.text.specs.Text.{all_blank, is_indented, text_test, required_text, optional_text, is_asked, reads_as, has_pattern, entity_test};
+ghost use Rattle.text.specs.Text.{all_blank, is_indented, text_test, required_text, optional_text, explanation_text, has_blank, filled_text, is_asked, reads_as, has_pattern, entity_test};
 
 use chars::columns;
 use chars::columns::Allowed;
@@ -62,6 +62,43 @@ pub fn optional(line: &[u8], first: u16, last: u16) -> Edit
     ensures { finding_of result ≡ optional_text (capitals line.now) first last }
 {
     text(line, first, last, Edit::Passed)
+}
+
+// An explanation: 103 where it is all blank, 33 where it begins with a blank.
+pub fn explanation(line: &[u8], first: u16, last: u16) -> Edit
+    ensures { finding_of result ≡ explanation_text (capitals line.now) first last }
+{
+    text(
+        line,
+        first,
+        last,
+        Edit::Broken(first, Reason::ExplanationMissing),
+    )
+}
+
+// Whether a column of a field is blank.
+pub fn has_blank(line: &[u8], first: u16, last: u16) -> bool
+    ensures { result ≡ has_blank (capitals line.now) first last }
+{
+    let mut at = chars::index_of(first) as usize;
+    let end = last as usize;
+    while at < end {
+        if chars::is_blank(chars::char_at(line, at)) {
+            return true;
+        }
+        at += 1;
+    }
+    false
+}
+
+// A text that fills its columns: 32 where it is all blank, 33 where a column is.
+pub fn filled(line: &[u8], first: u16, last: u16) -> Edit
+    ensures { finding_of result ≡ filled_text (capitals line.now) first last }
+{
+    if all_blank(line, first, last) {
+        return Edit::Broken(first, Reason::TextMissing);
+    }
+    columns::unless(!has_blank(line, first, last), first, Reason::TextIndented)
 }
 
 // Whether a pattern's symbol asks for the character.

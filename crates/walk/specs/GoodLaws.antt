@@ -6,12 +6,13 @@ use Rattle.calendar.specs.declared.Quarter.{Quarter}
 use Rattle.edits.specs.declared.Opening.{Opening}
 use Rattle.edits.specs.declared.Phase.TheVariants.{AfterA, EOpen, AfterT, BeforeA, AfterF}
 use Rattle.edits.specs.declared.Phase.{Phase}
-use Rattle.shape.specs.Fits.{EndsE, Fits, Bounded}
+use Rattle.shape.specs.Fits.{EndsE, Fits, NoteBounded, Bounded}
 use Rattle.shape.specs.Phases.{stands}
 use Rattle.shape.specs.Shape.{Shape}
 use Rattle.shape.specs.declared.EmployeeOn.{EmployeeOn}
 use Rattle.shape.specs.declared.EmployerOn.{EmployerOn}
 use Rattle.shape.specs.declared.Note.{Note}
+use Rattle.shape.specs.declared.Note.TheVariants.{Deposit, Explanation}
 use Rattle.shape.specs.declared.Said.{Said}
 use Rattle.shape.specs.declared.Said.TheVariants.{OfA, OfE, OfS, OfT, OfF, OfNote, OfNone}
 use Rattle.shape.specs.Limits.{most_employees, most_fein}
@@ -57,12 +58,13 @@ pub record Good (room : Room) (held : Opening) (p : List Said) : Type 0 where
   pub under_sum : (open_in p).sum ≤ (open_in p).count * (shape_of held.format).most_cents
   pub fein : (open_in p).fein ≤ most_fein
   pub others : (totals_in p).others ≤ (shape_of held.format).most_others
+  pub notes : (totals_in p).notes ≤ (shape_of held.format).most_notes
   -- Under an E that says that no S record follows there is none.
   pub none_follow : (open_in p).follow ≡ false → ids_under p ≡ []
   pub quarter : (shape_of held.format).quarter_unfit (phase_in p) held (filed_in p) ≡ false
   pub more : (shape_of held.format).unfit_more room.ids (length (ids_under p)) (stands EOpen (phase_in p)) (totals_in p) (open_in p) ≡ false
   -- Each E has at most one T, and an open one none yet.
-  pub lines : length p + opens (phase_in p) ≤ begun (phase_in p) + ((totals_in p).employers + (totals_in p).employers) + (totals_in p).count + (totals_in p).others + done (phase_in p)
+  pub lines : length p + opens (phase_in p) ≤ begun (phase_in p) + ((totals_in p).employers + (totals_in p).employers) + (totals_in p).count + (totals_in p).others + (totals_in p).notes + done (phase_in p)
 
 pub length_snoc : {A : Type 0} (l : List A) (x : A) → length (l ++ (x ∷ [])) ≡ length l + 1
 length_snoc l x = length-append l (x ∷ [])
@@ -79,6 +81,7 @@ good_none room held =
       under_sum = omega arith;
       fein = omega arith;
       others = omega arith;
+      notes = omega arith;
       none_follow = λ e. refl;
       quarter = (lawful_of held.format).quarter_none held;
       more = (lawful_of held.format).more_none room.ids;
@@ -125,6 +128,7 @@ module _ (room : Room) (held : Opening) (p : List Said) (g : Good room held p) w
         under_sum = omega arith;
         fein = omega arith;
         others = g.others;
+        notes = g.notes;
         none_follow = λ e. refl;
         quarter = kept.quarter;
         more = kept.more;
@@ -145,6 +149,7 @@ module _ (room : Room) (held : Opening) (p : List Said) (g : Good room held p) w
         under_sum = omega arith;
         fein = omega arith;
         others = g.others;
+        notes = g.notes;
         none_follow = λ e. refl;
         quarter = kept.quarter;
         more = kept.more;
@@ -164,6 +169,7 @@ module _ (room : Room) (held : Opening) (p : List Said) (g : Good room held p) w
         under_sum = one_more (open_in p).count (shape_of held.format).most_cents (open_in p).sum employee.wages g.under_sum small;
         fein = g.fein;
         others = g.others;
+        notes = g.notes;
         none_follow = λ e. absurd (false≢true (sym e ∙ fits.1));
         quarter = kept.quarter;
         more = kept.more;
@@ -187,6 +193,7 @@ module _ (room : Room) (held : Opening) (p : List Said) (g : Good room held p) w
         under_sum = omega arith;
         fein = omega arith;
         others = g.others;
+        notes = g.notes;
         none_follow = λ e. refl;
         quarter = kept.quarter;
         more = kept.more;
@@ -206,14 +213,15 @@ module _ (room : Room) (held : Opening) (p : List Said) (g : Good room held p) w
         under_sum = omega arith;
         fein = omega arith;
         others = g.others;
+        notes = g.notes;
         none_follow = λ e. refl;
         quarter = kept.quarter;
         more = kept.more;
         lines = omega (arith, g.lines, place);
       }
 
-  good_note : (note : Note) → Fits s (context_at room held p) (OfNote note) → Kept room held p (OfNote note) → Good room held (OfNote note ∷ p)
-  good_note note fits kept =
+  good_note : (note : Note) → Fits s (context_at room held p) (OfNote note) → NoteBounded note → Kept room held p (OfNote note) → Good room held (OfNote note ∷ p)
+  good_note Deposit fits small kept =
       record {
         ids_fit = g.ids_fit;
         list_fit = g.list_fit;
@@ -224,6 +232,24 @@ module _ (room : Room) (held : Opening) (p : List Said) (g : Good room held p) w
         under_sum = g.under_sum;
         fein = g.fein;
         others = omega (arith, fits.1);
+        notes = g.notes;
+        none_follow = g.none_follow;
+        quarter = kept.quarter;
+        more = kept.more;
+        lines = omega (arith, g.lines);
+      }
+  good_note (Explanation return) fits small kept =
+      record {
+        ids_fit = g.ids_fit;
+        list_fit = g.list_fit;
+        some = g.some;
+        many = g.many;
+        sum = g.sum;
+        under = g.under;
+        under_sum = g.under_sum;
+        fein = omega (arith, small);
+        others = g.others;
+        notes = omega (arith, fits.1);
         none_follow = g.none_follow;
         quarter = kept.quarter;
         more = kept.more;
@@ -236,5 +262,5 @@ module _ (room : Room) (held : Opening) (p : List Said) (g : Good room held p) w
   good_more (OfS employee) fits small kept = good_s employee fits small.1 kept
   good_more OfT fits small kept = good_t fits kept
   good_more OfF fits small kept = good_f fits kept
-  good_more (OfNote note) fits small kept = good_note note fits kept
+  good_more (OfNote note) fits small kept = good_note note fits small kept
   good_more OfNone fits small kept = absurd fits

@@ -8,12 +8,13 @@ use Rattle.edits.specs.declared.Opening.{Opening}
 use Rattle.edits.specs.declared.Phase.{Phase}
 use Rattle.edits.specs.declared.Phase.TheVariants.{BeforeA, AfterA, EOpen, AfterT, AfterF}
 use Rattle.edits.specs.declared.Totals.{Totals}
-use Rattle.wham_fields.specs.declared.Edition.{Edition}
-use Rattle.wham_fields.specs.declared.Edition.TheVariants.{Of2024}
+use Rattle.edits.specs.declared.format.Edition.{Edition}
+use Rattle.edits.specs.declared.format.Edition.TheVariants.{Of2024, Of2020}
 
--- "Greatest files: A, 65,536 E and T, 100,000 S, 100,000 R, F are 331,074 lines"
+-- "Greatest files: A, 65,536 E and T, 100,000 S, 100,000 R, F are 331,074 lines; with 100,000 B 431,074."
 abbrev pub most_lines : Edition → ℕ
 most_lines Of2024 = 331074
+most_lines Of2020 = 431074
 
 -- What 12 digits of tax withheld can say.
 abbrev pub most_cents : ℕ
@@ -40,13 +41,17 @@ quarter_unfit EOpen held filed = no_quarter held filed
 quarter_unfit AfterT held filed = no_quarter held filed
 quarter_unfit AfterF held filed = no_quarter held filed
 
--- "1 to 8, 10 to 20, 30, 32 to 37, 39 to 44, 46, 47, 52, 55 to 61, 63, .., 91, .. in 2024 not 44"
+-- "1 to 8, 10 to 20, 30, 32 to 37, 39 to 44, 46, 47, 52, 55 to 61, 63, .., 91, in 2020 also 100 to 104 and in 2024 not 44"
 abbrev pub is_from_to : ℕ → ℕ → ℕ → Bool
 is_from_to first last n = leb first n && leb n last
 
-abbrev pub is_left : Edition → ℕ → Bool
-is_left Of2024 n =
+abbrev pub is_left_by_both : ℕ → Bool
+is_left_by_both n =
     (((is_from_to 1 8 n || is_from_to 10 20 n)
     || (eqb n 30 || is_from_to 32 37 n))
     || ((is_from_to 39 43 n || is_from_to 46 47 n) || eqb n 52))
     || ((is_from_to 55 61 n || eqb n 63) || eqb n 91)
+
+abbrev pub is_left : Edition → ℕ → Bool
+is_left Of2024 n = is_left_by_both n
+is_left Of2020 n = is_left_by_both n || (eqb n 44 || is_from_to 100 104 n)

@@ -4,13 +4,14 @@ use Rattle.std.specs.Prelude.{ℕ, Bool, ◌&&◌, eqb, length}
 use Rattle.lines.specs.Lines.{Line}
 use Rattle.chars.specs.Characters.{capitals}
 use Rattle.edits.specs.RowTests.{ignored_in}
+use Rattle.edits.specs.declared.format.Edition.{Edition}
 use Rattle.wham.specs.Edits.{rows_for}
 use Rattle.wham.specs.Kinds.{kind_on}
 use Rattle.wham.specs.declared.kind.Kind.{Kind}
 
-abbrev pub ignores : Kind → ℕ → Bool
-ignores kind column = ignored_in (rows_for kind) column
+abbrev pub ignores : Edition → Kind → ℕ → Bool
+ignores edition kind column = ignored_in (rows_for edition kind) column
 
 -- Of a line of 275 characters, by the record on it; a line of no record has none.
-abbrev pub is_ignored : Line → ℕ → Bool
-is_ignored line column = eqb (length line.text) 275 && ignores (kind_on (capitals line.text)) column
+abbrev pub is_ignored : Edition → Line → ℕ → Bool
+is_ignored edition line column = eqb (length line.text) 275 && ignores edition (kind_on edition (capitals line.text)) column

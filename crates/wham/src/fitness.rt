@@ -1,16 +1,13 @@
 // 72, the clauses that are this format's own.
 ghost use Rattle.std.specs.Prelude.{◌≡◌};
-ghost use Rattle.wham.specs.Fitness.{most_lines, is_above, second_unfit, no_quarter, quarter_unfit, is_from_to, is_left};
+ghost use Rattle.wham.specs.Fitness.{most_lines, is_above, second_unfit, no_quarter, quarter_unfit, is_from_to, is_left_by_both, is_left};
 
 use calendar::Quarter;
+use edits::format::Edition;
 use edits::{Open, Opening, Phase, Totals, format};
-use wham_fields::Edition;
 
 // The most cents that 12 digits of tax say.
 pub const MOST_CENTS: u64 = 999999999999;
-
-// The most R records of a file.
-pub const MOST_OTHERS: u64 = 100000;
 
 // The most lines that are read.
 pub fn most_lines(edition: Edition) -> u32
@@ -18,6 +15,7 @@ pub fn most_lines(edition: Edition) -> u32
 {
     match edition {
         Edition::Of2024 => 331074,
+        Edition::Of2020 => 431074,
     }
 }
 
@@ -75,9 +73,9 @@ fn is_from_to(n: u8, first: u8, last: u8) -> bool
     n <= last
 }
 
-// Whether a number is one that the refusal of an edit leaves in the state, in edition 2024.
-fn is_left_2024(n: u8) -> bool
-    ensures { result ≡ is_left Edition.Of2024 n }
+// Whether a number is one that the refusal of an edit leaves in the state, in either edition.
+fn is_left_by_both(n: u8) -> bool
+    ensures { result ≡ is_left_by_both n }
 {
     let of_lines = is_from_to(n, 1, 8) | is_from_to(n, 10, 20);
     let of_texts = (n == 30) | is_from_to(n, 32, 37);
@@ -86,11 +84,12 @@ fn is_left_2024(n: u8) -> bool
     of_lines | of_texts | of_numbers | of_totals
 }
 
-// The same in each edition.
+// The same in each edition: those that 2020 has beside them.
 pub fn is_left(edition: Edition, n: u8) -> bool
     ensures { result ≡ is_left edition n }
 {
     match edition {
-        Edition::Of2024 => is_left_2024(n),
+        Edition::Of2024 => is_left_by_both(n),
+        Edition::Of2020 => is_left_by_both(n) | ((n == 44) | is_from_to(n, 100, 104)),
     }
 }

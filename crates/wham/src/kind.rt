@@ -1,10 +1,12 @@
-// The six records, by their letters.
-ghost use Rattle.std.specs.Prelude.{◌≡◌};
-ghost use Rattle.wham.specs.Kinds.{kind_of, is_known, with_state, processor_of_e, account_of_s, difference_of_t, landmarks_of};
+// The seven records, by their letters.
+ghost use Rattle.std.specs.Prelude.{◌<◌, ◌≡◌};
+ghost use Rattle.wham.specs.Kinds.{kind_of_b, kind_of, is_known, with_state, further_of_e, account_in, difference_of_t, landmarks_of};
 
+use edits::format::Edition;
 use edits::{FurtherLandmarks, Landmarks, NONE_FURTHER};
 use wham_fields::{
-    ACCOUNT_OF_S, AMENDED_OF_T, PAYMENTS_OF_T, PROCESSOR_OF_E, STATE_OF_A, STATE_OF_E,
+    ACCOUNT_OF_B, ACCOUNT_OF_E, ACCOUNT_OF_S, AMENDED_OF_T, ORIGINAL_OF_T, PAYMENTS_OF_T,
+    PROCESSOR_OF_E, STATE_OF_A, STATE_OF_E,
 };
 
 #[derive(Clone, Copy)]
@@ -17,6 +19,8 @@ pub enum Kind {
     Employee,
     // R
     Deposit,
+    // B
+    Explanation,
     // T
     Total,
     // F
@@ -25,9 +29,19 @@ pub enum Kind {
     Unknown,
 }
 
+// B names a record in edition 2020 alone.
+fn kind_of_b(edition: Edition) -> Kind
+    ensures { result ≡ kind_of_b edition }
+{
+    match edition {
+        Edition::Of2024 => Kind::Unknown,
+        Edition::Of2020 => Kind::Explanation,
+    }
+}
+
 // The record that a letter names; the letter is a capital.
-pub fn kind_of(letter: u8) -> Kind
-    ensures { result ≡ kind_of letter }
+pub fn kind_of(edition: Edition, letter: u8) -> Kind
+    ensures { result ≡ kind_of edition letter }
 {
     match letter {
         b'A' => Kind::Transmitter,
@@ -36,6 +50,7 @@ pub fn kind_of(letter: u8) -> Kind
         b'R' => Kind::Deposit,
         b'T' => Kind::Total,
         b'F' => Kind::Final,
+        b'B' => kind_of_b(edition),
         _ => Kind::Unknown,
     }
 }
@@ -49,6 +64,7 @@ pub fn is_known(kind: Kind) -> bool
         Kind::Employer => true,
         Kind::Employee => true,
         Kind::Deposit => true,
+        Kind::Explanation => true,
         Kind::Total => true,
         Kind::Final => true,
         Kind::Unknown => false,
@@ -70,9 +86,9 @@ fn with_state(state: u16, further: FurtherLandmarks) -> Landmarks
     }
 }
 
-// E: whoever has the licence.
-fn processor_of_e() -> FurtherLandmarks
-    ensures { result ≡ processor_of_e }
+// E: whoever has the licence, and the account.
+fn further_of_e() -> FurtherLandmarks
+    ensures { result ≡ further_of_e }
 {
     FurtherLandmarks {
         licensed_first: PROCESSOR_OF_E[1],
@@ -81,15 +97,17 @@ fn processor_of_e() -> FurtherLandmarks
         whole_last: 0,
         part_first: 0,
         part_last: 0,
-        head_last: 0,
-        tail_first: 0,
-        tail_last: 0,
+        head_last: ACCOUNT_OF_E[1] + 5,
+        tail_first: ACCOUNT_OF_E[1] + 6,
+        tail_last: ACCOUNT_OF_E[2],
+        signed_last: 0,
     }
 }
 
-// S: the account in two parts, of six columns and of five.
-fn account_of_s() -> FurtherLandmarks
-    ensures { result ≡ account_of_s }
+// The account from one column to another, in two parts: six columns, and the others.
+fn account_in(first: u16, last: u16) -> FurtherLandmarks
+    requires { first < 300 }
+    ensures { result ≡ account_in first last }
 {
     FurtherLandmarks {
         licensed_first: 0,
@@ -98,13 +116,14 @@ fn account_of_s() -> FurtherLandmarks
         whole_last: 0,
         part_first: 0,
         part_last: 0,
-        head_last: ACCOUNT_OF_S[1] + 5,
-        tail_first: ACCOUNT_OF_S[1] + 6,
-        tail_last: ACCOUNT_OF_S[2],
+        head_last: first + 5,
+        tail_first: first + 6,
+        tail_last: last,
+        signed_last: 0,
     }
 }
 
-// T: what is due is the amended total less the payments.
+// T: what is due is the amended total less the payments; and the total that may be negative.
 fn difference_of_t() -> FurtherLandmarks
     ensures { result ≡ difference_of_t }
 {
@@ -118,6 +137,7 @@ fn difference_of_t() -> FurtherLandmarks
         head_last: 0,
         tail_first: 0,
         tail_last: 0,
+        signed_last: ORIGINAL_OF_T[2],
     }
 }
 
@@ -127,9 +147,10 @@ pub fn landmarks_of(kind: Kind) -> Landmarks
 {
     match kind {
         Kind::Transmitter => with_state(STATE_OF_A[1], NONE_FURTHER),
-        Kind::Employer => with_state(STATE_OF_E[1], processor_of_e()),
-        Kind::Employee => with_state(0, account_of_s()),
+        Kind::Employer => with_state(STATE_OF_E[1], further_of_e()),
+        Kind::Employee => with_state(0, account_in(ACCOUNT_OF_S[1], ACCOUNT_OF_S[2])),
         Kind::Deposit => with_state(0, NONE_FURTHER),
+        Kind::Explanation => with_state(0, account_in(ACCOUNT_OF_B[1], ACCOUNT_OF_B[2])),
         Kind::Total => with_state(0, difference_of_t()),
         Kind::Final => with_state(0, NONE_FURTHER),
         Kind::Unknown => with_state(0, NONE_FURTHER),

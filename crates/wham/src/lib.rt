@@ -20,12 +20,13 @@ ghost use Rattle.shape.specs.Shape.{fein_asked, id_asked};
 ghost use Rattle.wham.specs.Edits.{rows_for, rules_for, around as around_of, placed_edits, head_edits, text_edits, edits_on};
 ghost use Rattle.wham.specs.Says.{says};
 
+use edits::format::Edition;
 use edits::{Context, Landmarks, Seen, fields};
 use kind::Kind;
 use reason::Edit;
 use shape::{Asking, Said, head};
 use wham_fields::{
-    ALL_FIELDS, Edition, FIRST_OF_A, FIRST_OF_E, FIRST_OF_F, FIRST_OF_R, FIRST_OF_S, FIRST_OF_T,
+    ALL_FIELDS, FIRST_OF_A, FIRST_OF_B, FIRST_OF_E, FIRST_OF_F, FIRST_OF_R, FIRST_OF_S, FIRST_OF_T,
     field_rules,
 };
 
@@ -42,10 +43,10 @@ fn fields_from(
     from: usize,
     to: usize,
 ) -> Edit
-    requires { (from ≤ to) × (to ≤ 78) }
-    ensures { finding_of result ≡ fields_test (record { landmarks = landmarks; code = bytes "WHAM"; here = here; seen = seen }) (capitals line.now) (take (to - from) (drop from all_fields)) (take (to - from) (drop from (rules edition))) }
+    requires { (from ≤ to) × (to ≤ 84) }
+    ensures { finding_of result ≡ fields_test (record { landmarks = landmarks; code = bytes "WHAM"; here = here; seen = seen }) (capitals line.now) (take (to - from) (drop from (all_fields edition))) (take (to - from) (drop from (rules edition))) }
 {
-    let rows = wham_fields::all_rows();
+    let rows = wham_fields::all_rows(edition);
     let rules = field_rules::all_rules(edition);
     fields::first_broken(
         landmarks,
@@ -59,7 +60,7 @@ fn fields_from(
 }
 
 fn fields_edit(edition: Edition, kind: Kind, here: Context, seen: Seen, line: &[u8]) -> Edit
-    ensures { finding_of result ≡ first_broken (field_edits (around_of here seen kind) (capitals line.now) (rows_for kind) (rules_for edition kind)) }
+    ensures { finding_of result ≡ first_broken (field_edits (around_of here seen kind) (capitals line.now) (rows_for edition kind) (rules_for edition kind)) }
 {
     let marks = kind::landmarks_of(kind);
     match kind {
@@ -67,8 +68,11 @@ fn fields_edit(edition: Edition, kind: Kind, here: Context, seen: Seen, line: &[
         Kind::Employer => fields_from(edition, marks, here, seen, line, FIRST_OF_E, FIRST_OF_S),
         Kind::Employee => fields_from(edition, marks, here, seen, line, FIRST_OF_S, FIRST_OF_R),
         Kind::Deposit => fields_from(edition, marks, here, seen, line, FIRST_OF_R, FIRST_OF_T),
+        Kind::Explanation => {
+            fields_from(edition, marks, here, seen, line, FIRST_OF_B, ALL_FIELDS)
+        }
         Kind::Total => fields_from(edition, marks, here, seen, line, FIRST_OF_T, FIRST_OF_F),
-        Kind::Final => fields_from(edition, marks, here, seen, line, FIRST_OF_F, ALL_FIELDS),
+        Kind::Final => fields_from(edition, marks, here, seen, line, FIRST_OF_F, FIRST_OF_B),
         Kind::Unknown => Edit::Passed,
     }
 }
@@ -80,7 +84,7 @@ fn placed_edit(edition: Edition, kind: Kind, here: Context) -> Edit
     let open = here.open;
     let all = here.all;
     let phase = here.phase;
-    let e = place::place_edit(edition, phase, open.follow, kind);
+    let e = place::place_edit(edition, phase, open.follow, open.noted, kind);
     match e {
         Edit::Broken(_, _) => e,
         Edit::Passed => place::count_edit(kind, all),
@@ -112,7 +116,7 @@ pub fn text_edit(edition: Edition, here: Context, seen: Seen, line: &[u8]) -> Ed
 {
     kind_edit(
         edition,
-        kind::kind_of(chars::char_at(line, 0)),
+        kind::kind_of(edition, chars::char_at(line, 0)),
         here,
         seen,
         line,
@@ -120,22 +124,34 @@ pub fn text_edit(edition: Edition, here: Context, seen: Seen, line: &[u8]) -> Ed
 }
 
 // What the record on a line says.
-pub fn said_on(line: &[u8]) -> Said
-    ensures { result ≡ says (capitals line.now) }
+pub fn said_on(edition: Edition, line: &[u8]) -> Said
+    ensures { result ≡ says edition (capitals line.now) }
 {
-    said::said_by(kind::kind_of(chars::char_at(line, 0)), line)
+    said::said_by(
+        edition,
+        kind::kind_of(edition, chars::char_at(line, 0)),
+        line,
+    )
 }
 
 // What the record on a line asks of the employer list.
-pub fn fein_asked(line: &[u8]) -> Asking
-    ensures { result ≡ fein_asked (says (capitals line.now)) }
+pub fn fein_asked(edition: Edition, line: &[u8]) -> Asking
+    ensures { result ≡ fein_asked (says edition (capitals line.now)) }
 {
-    said::fein_asked(kind::kind_of(chars::char_at(line, 0)), line)
+    said::fein_asked(
+        edition,
+        kind::kind_of(edition, chars::char_at(line, 0)),
+        line,
+    )
 }
 
 // What the record on a line asks of the id table.
-pub fn id_asked(line: &[u8]) -> Asking
-    ensures { result ≡ id_asked (says (capitals line.now)) }
+pub fn id_asked(edition: Edition, line: &[u8]) -> Asking
+    ensures { result ≡ id_asked (says edition (capitals line.now)) }
 {
-    said::id_asked(kind::kind_of(chars::char_at(line, 0)), line)
+    said::id_asked(
+        edition,
+        kind::kind_of(edition, chars::char_at(line, 0)),
+        line,
+    )
 }

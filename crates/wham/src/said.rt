@@ -2,21 +2,32 @@
 ghost use Rattle.std.specs.Prelude.{◌≡◌};
 ghost use Rattle.chars.specs.Characters.{capitals};
 ghost use Rattle.shape.specs.Shape.{fein_asked, id_asked};
-ghost use Rattle.wham.specs.Says.{said_by};
+ghost use Rattle.wham.specs.Says.{has_b, said_by};
 
 use crate::kind::Kind;
 use calendar::Quarter;
+use edits::format::Edition;
 use edits::rows;
 use number::letters;
-use shape::{Asking, EmployeeOn, EmployerOn, Note, Said};
+use shape::{Asking, EmployeeOn, EmployerOn, Note, ReturnOn, Said};
 use wham_fields::{
-    ACCOUNT_OF_E, CORRECT_OF_S, FEIN_OF_E, FOLLOW_OF_E, ORIGINAL_OF_S, PERIOD_OF_E, YEAR_OF_A,
-    YEAR_OF_E,
+    ACCOUNT_OF_B, ACCOUNT_OF_E, CORRECT_OF_S, FEIN_OF_B, FEIN_OF_E, FOLLOW_OF_E, ORIGINAL_OF_S,
+    PERIOD_OF_E, YEAR_OF_A, YEAR_OF_E,
 };
 
+// Whether returns have B records.
+pub fn has_b(edition: Edition) -> bool
+    ensures { result ≡ has_b edition }
+{
+    match edition {
+        Edition::Of2024 => false,
+        Edition::Of2020 => true,
+    }
+}
+
 // E: the account is held in two parts, of six columns and of five.
-fn employer_on(line: &[u8]) -> Said
-    ensures { result ≡ said_by Kind.Employer (capitals line.now) }
+fn employer_on(edition: Edition, line: &[u8]) -> Said
+    ensures { result ≡ said_by edition Kind.Employer (capitals line.now) }
 {
     Said::OfE(EmployerOn {
         fein: rows::value_at(line, FEIN_OF_E),
@@ -30,12 +41,25 @@ fn employer_on(line: &[u8]) -> Said
         files: true,
         year: rows::value_at(line, YEAR_OF_E),
         month: rows::value_at(line, PERIOD_OF_E),
+        joins: has_b(edition),
     })
 }
 
+// B: whose return it explains.
+fn explanation_on(edition: Edition, line: &[u8]) -> Said
+    ensures { result ≡ said_by edition Kind.Explanation (capitals line.now) }
+{
+    let note = Note::Explanation(ReturnOn {
+        fein: rows::value_at(line, FEIN_OF_B),
+        account_head: letters::letters_in(line, ACCOUNT_OF_B[1], ACCOUNT_OF_B[1] + 5),
+        account_tail: letters::letters_in(line, ACCOUNT_OF_B[1] + 6, ACCOUNT_OF_B[2]),
+    });
+    Said::OfNote(note)
+}
+
 // A: its year; the month is that of the first E.
-fn year_on(line: &[u8]) -> Said
-    ensures { result ≡ said_by Kind.Transmitter (capitals line.now) }
+fn year_on(edition: Edition, line: &[u8]) -> Said
+    ensures { result ≡ said_by edition Kind.Transmitter (capitals line.now) }
 {
     Said::OfA(Quarter {
         year: rows::value_at(line, YEAR_OF_A),
@@ -44,8 +68,8 @@ fn year_on(line: &[u8]) -> Said
 }
 
 // S: no identity number is compared with another, so none is told.
-fn employee_on(line: &[u8]) -> Said
-    ensures { result ≡ said_by Kind.Employee (capitals line.now) }
+fn employee_on(edition: Edition, line: &[u8]) -> Said
+    ensures { result ≡ said_by edition Kind.Employee (capitals line.now) }
 {
     Said::OfS(EmployeeOn {
         id: 0,
@@ -55,14 +79,15 @@ fn employee_on(line: &[u8]) -> Said
 }
 
 // What a record of this kind says to the walk.
-pub fn said_by(kind: Kind, line: &[u8]) -> Said
-    ensures { result ≡ said_by kind (capitals line.now) }
+pub fn said_by(edition: Edition, kind: Kind, line: &[u8]) -> Said
+    ensures { result ≡ said_by edition kind (capitals line.now) }
 {
     match kind {
-        Kind::Transmitter => year_on(line),
-        Kind::Employer => employer_on(line),
-        Kind::Employee => employee_on(line),
+        Kind::Transmitter => year_on(edition, line),
+        Kind::Employer => employer_on(edition, line),
+        Kind::Employee => employee_on(edition, line),
         Kind::Deposit => Said::OfNote(Note::Deposit),
+        Kind::Explanation => explanation_on(edition, line),
         Kind::Total => Said::OfT,
         Kind::Final => Said::OfF,
         Kind::Unknown => Said::OfNone,
@@ -70,14 +95,15 @@ pub fn said_by(kind: Kind, line: &[u8]) -> Said
 }
 
 // No record asks anything of the employer list: a FEIN may stand on several E records.
-pub fn fein_asked(kind: Kind, line: &[u8]) -> Asking
-    ensures { result ≡ fein_asked (said_by kind (capitals line.now)) }
+pub fn fein_asked(edition: Edition, kind: Kind, line: &[u8]) -> Asking
+    ensures { result ≡ fein_asked (said_by edition kind (capitals line.now)) }
 {
     match kind {
         Kind::Transmitter => shape::asks_nothing(),
         Kind::Employer => shape::asks_nothing(),
         Kind::Employee => shape::asks_nothing(),
         Kind::Deposit => shape::asks_nothing(),
+        Kind::Explanation => shape::asks_nothing(),
         Kind::Total => shape::asks_nothing(),
         Kind::Final => shape::asks_nothing(),
         Kind::Unknown => shape::asks_nothing(),
@@ -85,8 +111,8 @@ pub fn fein_asked(kind: Kind, line: &[u8]) -> Asking
 }
 
 // Of the id table an S record asks for zero, which never stands there.
-pub fn id_asked(kind: Kind, line: &[u8]) -> Asking
-    ensures { result ≡ id_asked (said_by kind (capitals line.now)) }
+pub fn id_asked(edition: Edition, kind: Kind, line: &[u8]) -> Asking
+    ensures { result ≡ id_asked (said_by edition kind (capitals line.now)) }
 {
     match kind {
         Kind::Transmitter => shape::asks_nothing(),
@@ -96,6 +122,7 @@ pub fn id_asked(kind: Kind, line: &[u8]) -> Asking
             number: 0,
         },
         Kind::Deposit => shape::asks_nothing(),
+        Kind::Explanation => shape::asks_nothing(),
         Kind::Total => shape::asks_nothing(),
         Kind::Final => shape::asks_nothing(),
         Kind::Unknown => shape::asks_nothing(),

@@ -2,11 +2,11 @@
 ghost use Rattle.std.specs.Prelude.{◌≡◌};
 ghost use Rattle.wham_fields.specs.FieldRules.{rules};
 
-use crate::Edition;
+use edits::format::Edition;
 use edits::held_by;
 
 // Edition 2024: a number for each row of the list of fields, in its order.
-const RULES_OF_2024: [u8; 78] = [
+const RULES_OF_2024: [u8; 84] = [
     // A: the transmitter
     held_by::NOTHING,
     held_by::YEAR_HELD, // tax year
@@ -91,13 +91,33 @@ const RULES_OF_2024: [u8; 78] = [
     held_by::NOTHING,
     held_by::FILE_WAGES_OF_S, // total
     held_by::NOTHING,
+    // B: an explanation, of edition 2020 alone
+    held_by::NOTHING,
+    held_by::YEAR_OF_RETURN, // tax year
+    held_by::FEIN_OF_RETURN, // employer's FEIN
+    held_by::NOTHING,
+    held_by::NOTHING,
+    held_by::ACCOUNT_OF_RETURN, // withholding account
 ];
 
+// Edition 2020: an E agrees with the B records of its return, and T has other totals.
+fn rules_of_2020() -> [u8; 84]
+    ensures { result ≡ rules Edition.Of2020 }
+{
+    let mut rules = RULES_OF_2024;
+    rules[18] = held_by::FEIN_AND_ROOM;
+    rules[38] = held_by::ACCOUNT_OF_RETURN;
+    rules[67] = held_by::SIGNED_WAGES_OF_S;
+    rules[69] = held_by::NOTHING;
+    rules
+}
+
 // The rules as a value, which a caller binds once and lends.
-pub fn all_rules(edition: Edition) -> [u8; 78]
+pub fn all_rules(edition: Edition) -> [u8; 84]
     ensures { result ≡ rules edition }
 {
     match edition {
         Edition::Of2024 => RULES_OF_2024,
+        Edition::Of2020 => rules_of_2020(),
     }
 }

@@ -1,5 +1,6 @@
-// The fields of the six records of the amended withholding file: class beside first and last
-// column. A record is named by its letter, in the order A, E, S, R, T, F.
+// The fields of the seven records of the amended withholding file: class beside first and last
+// column. A record is named by its letter, in the order A, E, S, R, T, F, B; only edition 2020 has
+// the B. The columns are the same in both editions.
 #![tactic(auto)]
 
 pub mod field_rules;
@@ -7,24 +8,20 @@ pub mod field_rules;
 ghost use Rattle.std.specs.Prelude.{◌≡◌};
 ghost use Rattle.wham_fields.specs.Fields.{fields};
 
+use edits::format::Edition;
 use field::class;
-
-// Which of Maine's specifications of this file is meant. The columns are the same in each; letters,
-// places and some rules are not.
-#[derive(Clone, Copy)]
-pub enum Edition {
-    // Document 001.
-    Of2024,
-}
 
 // How many columns a record has.
 pub const RECORD: u16 = 275;
 
-// One row a field: its class, its first and its last column. The fields that rules, meaning and
-// writers name come first; each stands in the list below.
+// One row a field: its class, its first and its last column, with the classes of edition 2024; what
+// edition 2020 reads otherwise stands below. The fields that rules, meaning and writers name come
+// first; each stands in the list.
 
 // A: the transmitter
 pub const YEAR_OF_A: [u16; 3] = [class::NUMERIC, 2, 5];
+
+const FEIN_OF_A: [u16; 3] = [class::NUMERIC, 6, 14];
 
 pub const STATE_OF_A: [u16; 3] = [class::STATE_CODE, 139, 140];
 
@@ -91,12 +88,19 @@ pub const CODE_OF_F: [u16; 3] = [class::ENTITY_CODE, 22, 25];
 
 pub const TOTAL_OF_F: [u16; 3] = [class::NUMERIC, 41, 55];
 
+// B: an explanation
+pub const YEAR_OF_B: [u16; 3] = [class::NUMERIC, 2, 5];
+
+pub const FEIN_OF_B: [u16; 3] = [class::FEDERAL_NUMBER, 6, 14];
+
+pub const ACCOUNT_OF_B: [u16; 3] = [class::NUMERIC, 265, 275];
+
 // All fields, record after record.
-const FIELDS: [[u16; 3]; 78] = [
+const FIELDS: [[u16; 3]; 84] = [
     // A: the transmitter
     [class::RECORD_LETTER, 1, 1],
     YEAR_OF_A,
-    [class::NUMERIC, 6, 14],
+    FEIN_OF_A,
     [class::ENTITY_CODE, 15, 18],
     [class::IGNORED, 19, 23],
     [class::REQUIRED_TEXT, 24, 73],
@@ -177,6 +181,13 @@ const FIELDS: [[u16; 3]; 78] = [
     [class::IGNORED, 26, 40],
     TOTAL_OF_F,
     [class::IGNORED, 56, 275],
+    // B: an explanation
+    [class::RECORD_LETTER, 1, 1],
+    YEAR_OF_B,
+    FEIN_OF_B,
+    [class::ENTITY_CODE, 15, 18],
+    [class::EXPLANATION, 19, 264],
+    ACCOUNT_OF_B,
 ];
 
 // The number of each record's first field, and how many fields there are.
@@ -192,11 +203,35 @@ pub const FIRST_OF_T: usize = 60;
 
 pub const FIRST_OF_F: usize = 71;
 
-pub const ALL_FIELDS: usize = 78;
+pub const FIRST_OF_B: usize = 78;
+
+pub const ALL_FIELDS: usize = 84;
+
+// The list of edition 2020: the same columns, and in seven fields another class.
+fn rows_of_2020() -> [[u16; 3]; 84]
+    ensures { result ≡ fields Edition.Of2020 }
+{
+    let mut rows = FIELDS;
+    rows[2] = [class::FEDERAL_NUMBER, FEIN_OF_A[1], FEIN_OF_A[2]];
+    rows[18] = [class::FEDERAL_NUMBER, FEIN_OF_E[1], FEIN_OF_E[2]];
+    rows[34] = [class::FEDERAL_NUMBER, PROCESSOR_OF_E[1], PROCESSOR_OF_E[2]];
+    rows[38] = [class::FILLED_TEXT, ACCOUNT_OF_E[1], ACCOUNT_OF_E[2]];
+    rows[41] = [
+        class::SOCIAL_SECURITY_OF_2020,
+        IDENTITY_OF_S[1],
+        IDENTITY_OF_S[2],
+    ];
+    rows[53] = [class::FILLED_TEXT, ACCOUNT_OF_S[1], ACCOUNT_OF_S[2]];
+    rows[67] = [class::SIGNED, ORIGINAL_OF_T[1], ORIGINAL_OF_T[2]];
+    rows
+}
 
 // The list of fields as a value, which a caller binds once and lends.
-pub fn all_rows() -> [[u16; 3]; 78]
-    ensures { result ≡ fields }
+pub fn all_rows(edition: Edition) -> [[u16; 3]; 84]
+    ensures { result ≡ fields edition }
 {
-    FIELDS
+    match edition {
+        Edition::Of2024 => FIELDS,
+        Edition::Of2020 => rows_of_2020(),
+    }
 }

@@ -7,7 +7,6 @@ use Rattle.std.proofs.Math.Dec.{T, leb}
 use Rattle.std.proofs.lemmas.Bool.{lt-leb}
 use Rattle.laws.specs.ChoiceLaws.{neither}
 use Rattle.laws.specs.Spelling.{bytes}
-use Rattle.edits.specs.declared.Open.{Open}
 use Rattle.edits.specs.declared.Totals.{Totals}
 use Rattle.write.specs.PartLaws.{tiles, AllFit}
 use Rattle.wham_write.specs.Records.{parts_of_t, parts_of_f}
@@ -30,17 +29,17 @@ not_large payments original amended s =
     rw (lt-leb (10 ^ 11) payments s.pays, lt-leb (10 ^ 14) original s.first, lt-leb (10 ^ 14) amended s.whole)
 
 -- ---- T, with or without a hyphen
-module _ (this : Open) (payments amended : ℕ) where
-  pub total_tiles : T (tiles 275 0 (parts_of_t this payments amended))
+module _ (count payments original amended : ℕ) where
+  pub total_tiles : T (tiles 275 0 (parts_of_t count payments original amended))
   unfolding bytes
   total_tiles = at (leb payments amended) refl where
-    at : (covered : Bool) → leb payments amended ≡ covered → T (tiles 275 0 (parts_of_t this payments amended))
+    at : (covered : Bool) → leb payments amended ≡ covered → T (tiles 275 0 (parts_of_t count payments original amended))
     at true e = rw e tt
     at false e = rw e tt
 
-  pub total_fits : this.count < 10 ^ 7 → Small payments this.second amended → AllFit (parts_of_t this payments amended)
+  pub total_fits : count < 10 ^ 7 → Small payments original amended → AllFit (parts_of_t count payments original amended)
   total_fits few s = at (leb payments amended) refl where
-    at : (covered : Bool) → leb payments amended ≡ covered → AllFit (parts_of_t this payments amended)
+    at : (covered : Bool) → leb payments amended ≡ covered → AllFit (parts_of_t count payments original amended)
     at true e =
         rw e (tt, (few, (tt, (tt, (s.pays, (omega (arith, s.whole), (tt, (s.first, (tt, (s.whole, (tt, tt)))))))))))
     at false e =

@@ -1,10 +1,10 @@
 pub mod Records
 pub mod Writing
 pub mod Others
-pub mod Due
+pub mod Signed
 pub mod TotalFields
 pub mod Fitting
-pub mod Ended
+pub mod Next
 pub mod Zeros
 pub mod Shared
 pub mod Theorems

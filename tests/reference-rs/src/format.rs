@@ -16,9 +16,10 @@ pub enum Format {
 }
 
 /// The format, its number, and its name as an argument; PFML is what no argument names.
-const FORMATS: [(Format, u64, &str); 2] = [
+const FORMATS: [(Format, u64, &str); 3] = [
     (Format::Pfml, 0, ""),
-    (Format::Wham(Edition::Of2024), 1, "wham-2024"),
+    (Format::WHAM_2024, 1, "wham-2024"),
+    (Format::WHAM_2020, 2, "wham-2020"),
 ];
 
 /// What a state holds that was opened with a number that names no format.
@@ -26,6 +27,7 @@ const NONE: u64 = 255;
 
 impl Format {
     pub const WHAM_2024: Format = Format::Wham(Edition::Of2024);
+    pub const WHAM_2020: Format = Format::Wham(Edition::Of2020);
 
     pub fn named(number: u64) -> Format {
         let known = FORMATS.into_iter().find(|(_, own, _)| *own == number);
@@ -80,7 +82,7 @@ impl Format {
     /// What accepted files of this format have to show among them.
     pub fn kinds(self) -> Vec<&'static str> {
         match self {
-            Format::Wham(_) => wham::kinds::names(),
+            Format::Wham(edition) => wham::kinds::names(edition),
             _ => RETURNS.iter().map(|(name, _)| *name).collect(),
         }
     }
@@ -88,9 +90,9 @@ impl Format {
     /// Which of these an accepted input shows, each as often as it does: by employers in PFML.
     pub fn kinds_in(self, input: &[u8], accepted: &Accepted) -> Vec<usize> {
         match self {
-            Format::Wham(_) => {
+            Format::Wham(edition) => {
                 let (_, file) = ack::header(input).expect("it is accepted");
-                wham::kinds::of(file)
+                wham::kinds::of(edition, file)
             }
             _ => accepted.entries.iter().map(kind_of_return).collect(),
         }
@@ -105,12 +107,15 @@ mod tests {
     fn numbers_and_names() {
         assert_eq!(Format::named(0), Format::Pfml);
         assert_eq!(Format::named(1), Format::WHAM_2024);
-        for number in [2, 255, 256, 257, 1 << 32, u64::MAX] {
+        assert_eq!(Format::named(2), Format::WHAM_2020);
+        for number in [3, 4, 255, 256, 257, 258, 1 << 32, u64::MAX] {
             assert_eq!(Format::named(number), Format::Unknown);
         }
         assert_eq!(Format::called("wham-2024"), Some(Format::WHAM_2024));
-        assert_eq!(Format::called("wham-2020"), None);
-        let words = [Format::Pfml, Format::WHAM_2024, Format::Unknown].map(Format::word);
-        assert_eq!(words, [0, 1, 255]);
+        assert_eq!(Format::called("wham-2020"), Some(Format::WHAM_2020));
+        assert_eq!(Format::called("wham-2021"), None);
+        let formats = [Format::Pfml, Format::WHAM_2024, Format::WHAM_2020];
+        assert_eq!(formats.map(Format::word), [0, 1, 2]);
+        assert_eq!(Format::Unknown.word(), 255);
     }
 }

@@ -1,8 +1,8 @@
 //! An independent reference for the wage file acknowledgement. Its rules are read from the paper
 //! (document 01), the requests of document 02 that docs/changes names, the source document 000 and
-//! the readings in docs/DECISIONS.md; those of the amended withholding file from document 02 (vi),
-//! the source document 001 and the rule list docs/formats/wham.md. It shares no code and no table
-//! with the product.
+//! the readings in docs/DECISIONS.md; those of the amended withholding file from document 02 (vi) and
+//! (vii), the source documents 001 and 002 and the rule list docs/formats/wham.md. It shares no code
+//! and no table with the product.
 //!
 //! - `reference ack`: the whole input on standard input to the frames on standard output.
 //! - `reference cases SEED COUNT INPUTS EXPECTED [--small] [--all-bytes]`: writes COUNT inputs and
@@ -32,8 +32,9 @@
 //! - `reference stats [SEED COUNT]`: the same table without writing, and with the readings in here
 //!   held against each other on every case (`agree`).
 //!
-//! Each of them takes `--format wham-2024`, for the amended withholding file of edition 2024, and
-//! goes by PFML without it; a script names the format of each call, so `calls` goes by that.
+//! Each of them takes `--format wham-2024` or `--format wham-2020`, for the amended withholding file
+//! of that edition, and goes by PFML without it; a script names the format of each call, so `calls`
+//! goes by that.
 
 mod ack;
 mod agree;
@@ -93,7 +94,7 @@ const USAGE: &str = "usage: reference ack
        reference calls
        reference one SEED COUNT K [--small] [--all-bytes] [--long]
        reference stats [SEED COUNT] [--small] [--all-bytes] [--long]
-each of them with [--format wham-2024]; with it alone
+each of them with [--format wham-2024] or [--format wham-2020]; with one of them alone
        reference ignored SEED COUNT INPUTS EXPECTED [--small]";
 
 fn main() -> ExitCode {
@@ -156,7 +157,7 @@ fn run() -> Result<(), String> {
         ["needed", inputs, expected] => {
             let run = Run::create(format, inputs, expected)?;
             match format {
-                Format::Wham(_) => write_needed(wham::needed::all(), run),
+                Format::Wham(edition) => write_needed(wham::needed::all(edition), run),
                 _ => write_needed(needed::all(), run),
             }
         }
@@ -181,7 +182,7 @@ fn write_many(
         ("cases" | "long", _) => write_cases(cases(format, seed, count, options)?, run(format)?),
         ("pairs", Format::Wham(edition)) => {
             let pairs = wham::pairs::make(edition, number(seed)?, number(count)?, options);
-            write_pairs(pairs, Facts::of(&wham::pairs::WANTED), run(format)?)
+            write_pairs(pairs, Facts::of(wham::pairs::wanted(edition)), run(format)?)
         }
         ("pairs", _) => {
             let pairs = pairs::make(number(seed)?, number(count)?, options);
@@ -189,7 +190,8 @@ fn write_many(
         }
         ("ignored", Format::Wham(edition)) => {
             let pairs = wham::ignored::make(edition, number(seed)?, number(count)?, options);
-            write_pairs(pairs, Facts::of(&wham::ignored::WANTED), run(format)?)
+            let wanted = wham::ignored::wanted(edition);
+            write_pairs(pairs, Facts::of(wanted), run(format)?)
         }
         ("ignored", _) => Err("this format ignores no columns".to_string()),
         _ => Err(USAGE.to_string()),
@@ -199,7 +201,10 @@ fn write_many(
 /// A script of a format, and the numbers that have to come often enough in it.
 fn script_of(format: Format, seed: u64, count: u64) -> (Script, &'static [u8]) {
     match format {
-        Format::Wham(_) => (wham::scripts::make(seed, count), &wham::scripts::PROMISED),
+        Format::Wham(edition) => {
+            let script = wham::scripts::make(edition, seed, count);
+            (script, &wham::scripts::PROMISED)
+        }
         _ => (scripts::make(seed, count), &scripts::PROMISED),
     }
 }
@@ -217,8 +222,8 @@ struct Made {
 fn cases(format: Format, seed: &str, count: &str, options: Options) -> Result<Made, String> {
     let (seed, count) = (number(seed)?, number(count)?);
     Ok(match format {
-        Format::Wham(_) => {
-            let cases = wham::gen::Cases::new(seed, count, options);
+        Format::Wham(edition) => {
+            let cases = wham::gen::Cases::new(edition, seed, count, options);
             let promised = cases.promised();
             Made {
                 cases: Box::new(cases),

@@ -39,7 +39,7 @@ use crate::write::Written;
 use moments::Moment;
 
 /// No script has more bytes.
-pub const LONGEST: usize = 4_000_000;
+pub const LONGEST: usize = 6_000_000;
 
 /// The numbers that no file gets: of them each script has enough.
 pub const PROMISED: [u8; 11] = [71, 72, 73, 80, 81, 82, 83, 84, 85, 87, 88];
@@ -121,7 +121,7 @@ impl Script {
         seed: u64,
         calls: u64,
         mut fixed: Vec<Scene>,
-        by_chance: fn(&mut Rng, &mut Script),
+        by_chance: impl Fn(&mut Rng, &mut Script),
     ) {
         let mut rng = Rng::of(seed, 70, 0);
         rng.shuffle(&mut fixed);

@@ -181,7 +181,7 @@ mod tests {
 
     #[test]
     fn nineteen_of_a_kind_are_too_few() {
-        for format in [Format::Pfml, Format::WHAM_2024] {
+        for format in [Format::Pfml, Format::WHAM_2024, Format::WHAM_2020] {
             let mut kinds = Kinds::of(format);
             let all: Vec<usize> = (0..kinds.names.len()).collect();
             (0..19).for_each(|_| kinds.count(&all));

@@ -106,10 +106,10 @@ fn refusal_in(words: &Words) -> Option<Refusal> {
     Some(Refusal::new(number, line, words[3].min(u16::MAX.into())))
 }
 
-/// The numbers of refusals in the papers: those of document 01's table, and 73, 84, 85, 90 and 91 of
-/// document 02.
+/// The numbers of refusals in the papers: those of document 01's table, and 73, 84, 85, 90, 91 and
+/// 100 to 104 of document 02.
 pub fn is_listed(number: u8) -> bool {
-    matches!(number, 1..=8 | 10..=20 | 30..=65 | 70..=73 | 80..=85 | 90 | 91)
+    matches!(number, 1..=8 | 10..=20 | 30..=65 | 70..=73 | 80..=85 | 90 | 91 | 100..=104)
 }
 
 #[cfg(test)]
@@ -152,7 +152,9 @@ mod tests {
             (4, (1 << 32) + 5, false),
             (16, (1 << 32) + 1, false),
             (17, 1, true),
-            (17, 2, false),
+            (17, 2, true),
+            (17, 3, false),
+            (17, 4, false),
             (17, 255, false),
             (17, 1 << 32, false),
             (17, u64::MAX, false),

@@ -4,8 +4,8 @@ use Rattle.frames.proofs.employers_size.Goals as goal
 pub returns-in-Pfml : goal.returns-in-Pfml
 returns-in-Pfml c = rw c.in-Pfml.is
 
-pub returns-in-Wham2024 : goal.returns-in-Wham2024
-returns-in-Wham2024 c = rw c.in-Wham2024.is
+pub returns-in-Wham : goal.returns-in-Wham
+returns-in-Wham c = rw c.in-Wham.is
 
 pub returns-in-Unknown : goal.returns-in-Unknown
 returns-in-Unknown c = rw c.in-Unknown.is

@@ -198,3 +198,18 @@ returns-in-ValueTooLong c = rw c.in-ValueTooLong.is
 
 pub returns-in-DepositNotOfQuarter : goal.returns-in-DepositNotOfQuarter
 returns-in-DepositNotOfQuarter c = rw c.in-DepositNotOfQuarter.is
+
+pub returns-in-ExplanationMisplaced : goal.returns-in-ExplanationMisplaced
+returns-in-ExplanationMisplaced c = rw c.in-ExplanationMisplaced.is
+
+pub returns-in-YearNotOfReturn : goal.returns-in-YearNotOfReturn
+returns-in-YearNotOfReturn c = rw c.in-YearNotOfReturn.is
+
+pub returns-in-FeinNotOfReturn : goal.returns-in-FeinNotOfReturn
+returns-in-FeinNotOfReturn c = rw c.in-FeinNotOfReturn.is
+
+pub returns-in-ExplanationMissing : goal.returns-in-ExplanationMissing
+returns-in-ExplanationMissing c = rw c.in-ExplanationMissing.is
+
+pub returns-in-AccountNotOfReturn : goal.returns-in-AccountNotOfReturn
+returns-in-AccountNotOfReturn c = rw c.in-AccountNotOfReturn.is

@@ -200,5 +200,20 @@ returns-in-85 c = has_number_lem c.in-85.is
 pub returns-in-91 : goal.returns-in-91
 returns-in-91 c = has_number_lem c.in-91.is
 
+pub returns-in-100 : goal.returns-in-100
+returns-in-100 c = has_number_lem c.in-100.is
+
+pub returns-in-101 : goal.returns-in-101
+returns-in-101 c = has_number_lem c.in-101.is
+
+pub returns-in-102 : goal.returns-in-102
+returns-in-102 c = has_number_lem c.in-102.is
+
+pub returns-in-103 : goal.returns-in-103
+returns-in-103 c = has_number_lem c.in-103.is
+
+pub returns-in-104 : goal.returns-in-104
+returns-in-104 c = has_number_lem c.in-104.is
+
 pub returns-in_default : goal.returns-in_default
 returns-in_default c = no_number c.args.number c.in_default.in_default-own.rest

@@ -8,10 +8,10 @@ returns-in-Pfml c =
     let a = c.args in
     c.quarter_unfit.ensures ∙ ap (λ (f : Format). (shape_of f).quarter_unfit a.phase a.held a.filed) (sym c.in-Pfml.is)
 
-pub returns-in-Wham2024 : goal.returns-in-Wham2024
-returns-in-Wham2024 c =
+pub returns-in-Wham : goal.returns-in-Wham
+returns-in-Wham c =
     let a = c.args in
-    c.quarter_unfit-in-Wham2024.ensures ∙ ap (λ (f : Format). (shape_of f).quarter_unfit a.phase a.held a.filed) (sym c.in-Wham2024.is)
+    c.quarter_unfit-in-Wham.ensures ∙ ap (λ (f : Format). (shape_of f).quarter_unfit a.phase a.held a.filed) (sym c.in-Wham.is)
 
 pub returns-in-Unknown : goal.returns-in-Unknown
 returns-in-Unknown c =

@@ -1,8 +1,10 @@
 use Rattle.wham_write.proofs.is_t_next.Goals as goal
 
-pub returns-then-is_wham_2024 : goal.returns-then-is_wham_2024
-returns-then-is_wham_2024 c =
-    rw (← c.is_wham_2024.ensures, c.if-is_wham_2024.true) c.is_open.ensures
+pub returns-in-Pfml : goal.returns-in-Pfml
+returns-in-Pfml c = rw c.in-Pfml.is
 
-pub returns : goal.returns
-returns c = rw (← c.is_wham_2024.ensures, c.if-is_wham_2024.false)
+pub returns-in-Wham : goal.returns-in-Wham
+returns-in-Wham c = rw c.in-Wham.is c.is_t_of.ensures
+
+pub returns-in-Unknown : goal.returns-in-Unknown
+returns-in-Unknown c = rw c.in-Unknown.is

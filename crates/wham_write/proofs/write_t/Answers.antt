@@ -7,9 +7,15 @@ put_t-requires c =
 
 pub returns-in-Refused : goal.returns-in-Refused
 returns-in-Refused c =
-    leaves _ _ (rw c.amended_total-amended.ensures at c.answer_t-answer.ensures) _ _ _ c.in-Refused.is
+    let whole = c.amended_total-amended.ensures in
+    let first = c.original_total-original.ensures in
+    let edition = c.edition_of-edition.ensures in
+    leaves _ _ (rw (whole, first, edition) at c.answer_t-answer.ensures) _ _ _ c.in-Refused.is
 
 pub returns-in-Record : goal.returns-in-Record
 returns-in-Record c =
-    let amended = c.amended_total-amended.ensures in
-    rw (c.put_t.ensures, amended) (writes _ _ (rw amended at c.answer_t-answer.ensures) _ _ c.in-Record.is)
+    let whole = c.amended_total-amended.ensures in
+    let first = c.original_total-original.ensures in
+    let edition = c.edition_of-edition.ensures in
+    rw (c.put_t.ensures, whole, first, edition)
+    (writes _ _ (rw (whole, first, edition) at c.answer_t-answer.ensures) _ _ c.in-Record.is)

@@ -16,7 +16,7 @@ use crate::words::FORMAT;
 use crate::write::Written;
 
 /// Numbers that name no format; of some the low half would name one.
-pub const NO_FORMATS: [u64; 9] = [2, 9, 255, 256, 257, 65_536, 1 << 32, 1 << 63, u64::MAX];
+pub const NO_FORMATS: [u64; 9] = [3, 9, 255, 256, 257, 65_536, 1 << 32, 1 << 63, u64::MAX];
 
 const BAD: Quarter = Quarter::new(2026, 5);
 

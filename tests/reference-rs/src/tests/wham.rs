@@ -3,6 +3,7 @@
 mod calls;
 mod classes;
 mod generated;
+mod notes;
 mod places;
 mod unfit;
 mod worked;
@@ -17,7 +18,6 @@ use crate::wham::{ack, walk, Edition};
 
 /// "Held quarter 202609."
 const HELD: Quarter = Quarter::new(2026, 9);
-const EDITION: Edition = Edition::Of2024;
 
 fn refused(number: u8, line: u64, column: u64) -> Outcome {
     Outcome::Refused(Refusal::new(number, line, column))
@@ -30,6 +30,10 @@ const FEIN: u64 = 12_345_678;
 
 fn a() -> Vec<u8> {
     record_a(2024, 10_101_010, &AUGUSTA)
+}
+
+fn b() -> Vec<u8> {
+    record_b(2024, FEIN, ACCOUNT)
 }
 
 fn e1() -> Vec<u8> {
@@ -48,8 +52,9 @@ fn r() -> Vec<u8> {
     record_r(FILED, 100)
 }
 
-fn t(count: u64, payments: u64, original: u64, correct: u64) -> Vec<u8> {
-    record_t(count, payments, (original, correct))
+/// "T(count; 112; 175; 213), 123 their difference."
+fn t(count: u64, payments: u64, at_175: u64, at_213: u64) -> Vec<u8> {
+    record_t(count, payments, (at_175, at_213))
 }
 
 fn f(s: u64, e: u64, total: u64) -> Vec<u8> {
@@ -89,10 +94,26 @@ fn told_with(edition: Edition, held: Quarter, list: usize, file: &[u8]) -> Outco
     meaning
 }
 
-fn told(records: &[Vec<u8>]) -> Outcome {
-    told_with(EDITION, HELD, ack::EMPLOYERS, &file(records))
+fn told(edition: Edition, records: &[Vec<u8>]) -> Outcome {
+    told_with(edition, HELD, ack::EMPLOYERS, &file(records))
 }
 
-fn is_accepted(records: &[Vec<u8>]) -> bool {
-    matches!(told(records), Outcome::Accepted(_))
+fn is_accepted(found: &Outcome) -> bool {
+    matches!(found, Outcome::Accepted(_))
+}
+
+/// The first worked case of an edition: 1, and 2.
+fn worked_file(edition: Edition) -> Vec<Vec<u8>> {
+    let [one, other] = [s(100_000, 123_456), s(50, 44)];
+    let f = f(2, 1, 123_500);
+    match edition {
+        Edition::Of2024 => {
+            let t = t(2, 100_050, 100_050, 123_500);
+            vec![a(), e1(), one, other, r(), t, f]
+        }
+        Edition::Of2020 => {
+            let t = t(2, 400_000, 123_500, 500_000);
+            vec![a(), b(), e1(), one, other, r(), t, f]
+        }
+    }
 }

@@ -68,9 +68,8 @@ fn is_end_of(
     match meaning {
         Outcome::Accepted(accepted) => {
             wanted.list[..accepted.entries.len()].copy_from_slice(&accepted.entries);
-            let is_told = tells(state, accepted) && state.held == held;
-            let lines = lines_of(file).count() as u64;
-            answer.is_none() && is_told && state.lines_read == lines && *tables == wanted
+            let is_told = tells(state, accepted, file) && state.held == held;
+            answer.is_none() && is_told && *tables == wanted
         }
         Outcome::Refused(refusal) => {
             if refusal.number == 70 {
@@ -90,13 +89,18 @@ fn is_end_of(
 }
 
 /// What a walk that nobody altered holds after acceptance.
-fn tells(state: &State, accepted: &Accepted) -> bool {
+fn tells(state: &State, accepted: &Accepted, file: &[u8]) -> bool {
+    let letters: Vec<u8> = lines_of(file)
+        .map(|line| line.text[0].to_ascii_uppercase())
+        .collect();
+    let count = |letter: u8| letters.iter().filter(|own| **own == letter).count() as u64;
     state.standing == Standing::Accepted
         && state.employers == accepted.e_count
         && state.s == accepted.s_count
         && state.cents == accepted.cents
         && state.open == OpenE::default()
-        && state.more.notes == 0
+        && state.lines_read == letters.len() as u64
+        && (state.more.others, state.more.notes) == (count(b'R'), count(b'B'))
 }
 
 /// "A lending is all that remains or at least 277 bytes." The id table is zeros from the opening

@@ -5,6 +5,7 @@
 //! pair is not held against the very code that answers it.
 
 use super::layout::LENGTH;
+use super::Edition;
 use crate::alike::{columns, is_number, value, HEADER};
 use crate::lines::lines_of;
 
@@ -40,9 +41,9 @@ pub const AMOUNTS: [(usize, usize); 2] = [(191, 202), (203, 214)];
 /// The same columns as the two runs that they make.
 const HIDDEN: [(usize, usize); 2] = [(2, 43), (191, 214)];
 
-/// The hypotheses that two inputs break.
-pub fn broken(one: &[u8], other: &[u8]) -> Vec<Hypothesis> {
-    let (one, other) = (Sheet::of(one), Sheet::of(other));
+/// The hypotheses that two inputs of an edition break.
+pub fn broken(edition: Edition, one: &[u8], other: &[u8]) -> Vec<Hypothesis> {
+    let (one, other) = (Sheet::of(edition, one), Sheet::of(edition, other));
     let breaks = |hypothesis: &Hypothesis| !holds(*hypothesis, &one, &other);
     HYPOTHESES.into_iter().filter(breaks).collect()
 }
@@ -54,7 +55,7 @@ fn holds(hypothesis: Hypothesis, one: &Sheet, other: &Sheet) -> bool {
         Hypothesis::Bytes => one.blotted() == other.blotted(),
         Hypothesis::OwnRules => [one, other]
             .iter()
-            .all(|sheet| sheet.employees().all(meets_own_rules)),
+            .all(|sheet| sheet.employees().all(|s| meets_own_rules(sheet.edition, s))),
         Hypothesis::Original => same_sums(AMOUNTS[0]),
         Hypothesis::Correct => same_sums(AMOUNTS[1]),
     }
@@ -62,12 +63,13 @@ fn holds(hypothesis: Hypothesis, one: &Sheet, other: &Sheet) -> bool {
 
 /// An input as its header and lines, each with its end.
 struct Sheet<'a> {
+    edition: Edition,
     header: &'a [u8],
     lines: Vec<(&'a [u8], &'a [u8])>,
 }
 
 impl<'a> Sheet<'a> {
-    fn of(input: &'a [u8]) -> Sheet<'a> {
+    fn of(edition: Edition, input: &'a [u8]) -> Sheet<'a> {
         let (header, mut rest) = input.split_at(input.len().min(HEADER));
         let mut lines = Vec::new();
         for cut in lines_of(rest) {
@@ -75,7 +77,11 @@ impl<'a> Sheet<'a> {
             lines.push(line.split_at(cut.text.len()));
             rest = behind;
         }
-        Sheet { header, lines }
+        Sheet {
+            edition,
+            header,
+            lines,
+        }
     }
 
     /// The lines with the hidden columns blotted out.
@@ -91,7 +97,7 @@ impl<'a> Sheet<'a> {
     }
 
     /// The sum of a field under each E: of the S records "after it up to the first line that is
-    /// neither S, R [...]".
+    /// neither S, R nor (2020) B".
     fn sums(&self, field: (usize, usize)) -> Vec<u128> {
         let mut sums: Vec<u128> = Vec::new();
         let mut under_e = false;
@@ -102,7 +108,7 @@ impl<'a> Sheet<'a> {
             } else if is_record(text, b'S') && under_e {
                 let sum = sums.last_mut().expect("an E is open");
                 *sum += u128::from(value(text, field));
-            } else if !is_record(text, b'R') {
+            } else if !leaves_e_open(self.edition, text) {
                 under_e = false;
             }
         }
@@ -116,6 +122,12 @@ pub fn is_record(text: &[u8], letter: u8) -> bool {
     text.len() == LENGTH && text[0].to_ascii_uppercase() == letter
 }
 
+/// Whether a line that follows an E leaves it open.
+pub fn leaves_e_open(edition: Edition, text: &[u8]) -> bool {
+    let mut letters = edition.under_e().iter();
+    letters.any(|letter| is_record(text, *letter))
+}
+
 fn blotted(text: &[u8]) -> Vec<u8> {
     let mut copy = text.to_vec();
     if is_record(text, b'S') {
@@ -126,10 +138,10 @@ fn blotted(text: &[u8]) -> Vec<u8> {
     copy
 }
 
-fn meets_own_rules(text: &[u8]) -> bool {
+fn meets_own_rules(edition: Edition, text: &[u8]) -> bool {
     let all_permitted = |run: &(usize, usize)| columns(text, *run).iter().all(is_permitted);
     HIDDEN.iter().all(all_permitted)
-        && is_identity(columns(text, IDENTITY))
+        && is_identity(edition, columns(text, IDENTITY))
         && NAMES.iter().all(|name| is_name(columns(text, *name)))
         && AMOUNTS.iter().all(|field| is_number(columns(text, *field)))
 }
@@ -138,9 +150,13 @@ pub fn is_permitted(c: &u8) -> bool {
     (0x20..=0x7E).contains(c)
 }
 
-/// "2-10 digits and not 52"
-pub fn is_identity(field: &[u8]) -> bool {
-    is_number(field) && field[0] != b'9'
+/// "2-10 digits and not 52 of that edition"
+pub fn is_identity(edition: Edition, field: &[u8]) -> bool {
+    let may_be_filed = match edition {
+        Edition::Of2024 => true,
+        Edition::Of2020 => field != b"111111111" && field != b"333333333" && field != b"123456789",
+    };
+    is_number(field) && field[0] != b'9' && may_be_filed
 }
 
 /// "11-30 and 31-42 neither 32 nor 33": something in the first column.
@@ -157,15 +173,27 @@ mod tests {
 
     const QUARTER: Quarter = Quarter::new(2026, 3);
 
-    /// A tidy file of employers with these identity numbers and amounts, an R under each.
-    fn file_of(employers: &[&[(u64, u64, u64)]]) -> Draft {
+    /// A tidy file of employers with these identity numbers and amounts, an R under each, and in 2020
+    /// a B too.
+    fn file_in(edition: Edition, employers: &[&[(u64, u64, u64)]]) -> Draft {
         let employ = |people: &&[(u64, u64, u64)]| {
             let mut employer = Employer::of(1, people);
             employer.under.insert(1, Under::R(5));
+            if edition.has_b() {
+                employer.under.insert(1, Under::B);
+            }
             employer
         };
         let list: Vec<Employer> = employers.iter().map(employ).collect();
-        tidy(QUARTER, QUARTER, &list)
+        tidy(edition, QUARTER, QUARTER, &list)
+    }
+
+    fn file_of(employers: &[&[(u64, u64, u64)]]) -> Draft {
+        file_in(Edition::Of2024, employers)
+    }
+
+    fn broken(one: &[u8], other: &[u8]) -> Vec<Hypothesis> {
+        super::broken(Edition::Of2024, one, other)
     }
 
     /// What two such files break; they have the same T and F records where the sums are the same.
@@ -180,6 +208,18 @@ mod tests {
         let other: &[&[(u64, u64, u64)]] = &[&[(0, 18, 0), (0, 0, 0), (0, 0, 24)], &[(0, 1, 4)]];
         assert_eq!(broken_by(one, other), []);
         assert_eq!(broken_by(one, one), []);
+    }
+
+    /// A B leaves an E open in 2020, and in 2024 it does not: then what stands behind it is under none.
+    #[test]
+    fn people_behind_a_b() {
+        let one = file_in(Edition::Of2020, &[&[(1, 5, 9), (2, 6, 8)]]);
+        let mut other = one.clone();
+        let s = one.places(b'S')[1];
+        other.lines[s].put_number(203, 214, 9);
+        let found = |edition| super::broken(edition, &one.input(), &other.input());
+        assert_eq!(found(Edition::Of2020), [Hypothesis::Correct]);
+        assert_eq!(found(Edition::Of2024), []);
     }
 
     #[test]
@@ -232,11 +272,16 @@ mod tests {
 
     #[test]
     fn rules_of_the_fields() {
-        for id in [b"000000000", b"666000000", b"899999999", b"123456789"] {
-            assert!(is_identity(id));
+        for edition in Edition::BOTH {
+            for id in [b"000000000", b"666000000", b"899999999", b"123456788"] {
+                assert!(is_identity(edition, id));
+            }
+            for id in [b"900000000", b"999999999", b"12345678 ", b"90070000A"] {
+                assert!(!is_identity(edition, id));
+            }
         }
-        for id in [b"900000000", b"999999999", b"12345678 ", b"90070000A"] {
-            assert!(!is_identity(id));
+        for id in [b"111111111", b"333333333", b"123456789"] {
+            assert!(is_identity(Edition::Of2024, id) && !is_identity(Edition::Of2020, id));
         }
         assert!(is_name(b"ANNE 2ND.  ") && is_name(b"~") && !is_name(b" A") && !is_name(b"A\x7F"));
         assert!(!is_name(b"   "));

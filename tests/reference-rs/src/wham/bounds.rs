@@ -7,6 +7,7 @@ mod addresses;
 mod columns;
 mod digits;
 mod lines;
+mod notes;
 mod orders;
 mod quarters;
 mod texts;
@@ -15,6 +16,7 @@ mod totals;
 use super::breaks::record_for;
 use super::draft::*;
 use super::valid::{dress, random_quarter};
+use super::Edition;
 use crate::calendar::Quarter;
 use crate::draft::{put, random_held};
 use crate::edits::Refusal;
@@ -25,21 +27,23 @@ use crate::rng::Rng;
 const HELD: Quarter = Quarter::new(2026, 9);
 const FILED: Quarter = Quarter::new(2024, 3);
 
-/// The lines of `tidy_example`: A, E, S, S, R, T and F.
+/// The lines of the example in edition 2020: A, B, E, S, S, R, T and F. Without the B they are those
+/// of 2024 (`List::at`).
 const A: usize = 0;
-const E: usize = 1;
-const S: usize = 2;
-const R: usize = 4;
-const T: usize = 5;
-const F: usize = 6;
-
-fn tidy_example() -> Draft {
-    example(HELD, FILED)
-}
+const B: usize = 1;
+const E: usize = 2;
+const S: usize = 3;
+const R: usize = 5;
+const T: usize = 6;
+const F: usize = 7;
 
 /// All of them; the seed only fills the sequences of records and what stands in ignored columns.
-pub fn all(seed: u64) -> Vec<Case> {
-    let mut list = List::default();
+pub fn all(edition: Edition, seed: u64) -> Vec<Case> {
+    let mut list = List {
+        edition,
+        cases: Vec::new(),
+        name: "",
+    };
     columns::add(&mut list, seed);
     digits::add(&mut list);
     texts::add(&mut list);
@@ -48,14 +52,17 @@ pub fn all(seed: u64) -> Vec<Case> {
     totals::add(&mut list);
     lines::add(&mut list);
     orders::add(&mut list);
+    if edition.has_b() {
+        notes::add(&mut list);
+    }
     list.name("sequences");
     sequences(&mut list, seed);
     list.cases
 }
 
 /// The cases so far, and what those to come are named.
-#[derive(Default)]
 struct List {
+    edition: Edition,
     cases: Vec<Case>,
     name: &'static str,
 }
@@ -79,16 +86,50 @@ impl List {
         self.add(draft, if passes { Meant::Accepted } else { refusal });
     }
 
+    fn is_2020(&self) -> bool {
+        self.edition == Edition::Of2020
+    }
+
+    /// Where a line of the example stands.
+    fn at(&self, line: usize) -> usize {
+        match self.edition {
+            Edition::Of2024 if line > A => line - 1,
+            _ => line,
+        }
+    }
+
+    /// The lines of the example, one of each letter.
+    fn lines(&self) -> Vec<usize> {
+        let mut lines = vec![A, B, E, S, R, T, F];
+        lines.retain(|line| *line != B || self.is_2020());
+        lines
+    }
+
+    fn example(&self) -> Draft {
+        example(self.edition, HELD, FILED)
+    }
+
+    /// A tidy file of these employers.
+    fn of(&self, employers: &[Employer]) -> Draft {
+        tidy(self.edition, HELD, FILED, employers)
+    }
+
     /// The tidy example with text written into a line from a column on.
-    fn put(&mut self, place: usize, column: usize, text: &[u8], meant: Meant) {
-        let mut draft = tidy_example();
+    fn put(&mut self, line: usize, column: usize, text: &[u8], meant: Meant) {
+        let (mut draft, place) = (self.example(), self.at(line));
         draft.lines[place].put(column, text);
         self.add(&draft, meant);
     }
 
     /// The same, refused at that line with this number, at this column.
-    fn put_refused(&mut self, place: usize, column: usize, text: &[u8], told: (u8, usize)) {
-        self.put(place, column, text, refused_at(told.0, place, told.1));
+    fn put_refused(&mut self, line: usize, column: usize, text: &[u8], told: (u8, usize)) {
+        let meant = refused_at(told.0, self.at(line), told.1);
+        self.put(line, column, text, meant);
+    }
+
+    /// What a line of the example is refused with.
+    fn refused(&self, number: u8, line: usize, column: usize) -> Meant {
+        refused_at(number, self.at(line), column)
     }
 }
 
@@ -102,28 +143,42 @@ fn refused_at(number: u8, place: usize, column: usize) -> Meant {
 }
 
 /// What a sequence is made of: the letters, of which E comes as one saying 1 and one saying 0.
-const LETTERS: [u8; 7] = *b"AE0SRTF";
+pub fn letters(edition: Edition) -> &'static [u8] {
+    match edition {
+        Edition::Of2024 => b"AE0SRTF",
+        Edition::Of2020 => b"ABE0SRTF",
+    }
+}
 
 /// Every sequence of up to two records, of A and up to two after it, and of A, an E and up to three
-/// after it; each record is as it would have to be there.
+/// after it; in 2020 of some with a B before the E or under it, and up to two more. Each record is
+/// as it would have to be there.
 fn sequences(list: &mut List, seed: u64) {
+    let mut starts = vec![(&b""[..], 2), (b"A", 2), (b"AE", 3), (b"A0", 3)];
+    if list.is_2020() {
+        let with_b: [&[u8]; 7] = [b"AB", b"ABE", b"AB0", b"AESB", b"ABEST", b"ABESTB", b"A0BT"];
+        starts.extend(with_b.map(|start| (start, 2)));
+    }
     let mut rng = Rng::of(seed, 99, 1);
-    for (start, longest) in [(&b""[..], 2), (b"A", 2), (b"AE", 3), (b"A0", 3)] {
+    let letters = letters(list.edition);
+    for (start, longest) in starts {
         for length in 1..=longest {
-            for code in 0..7_usize.pow(length) {
-                let behind = (0..length).map(|k| LETTERS[code / 7_usize.pow(k) % 7]);
+            for code in 0..letters.len().pow(length) {
+                let at = |k| code / letters.len().pow(k) % letters.len();
+                let behind = (0..length).map(|k| letters[at(k)]);
                 let letters: Vec<u8> = start.iter().copied().chain(behind).collect();
-                list.add(&sequence(&mut rng, &letters), Meant::Unsaid);
+                let draft = sequence(list.edition, &mut rng, &letters);
+                list.add(&draft, Meant::Unsaid);
             }
         }
     }
 }
 
 /// Records of these letters, with totals that are right; `0` is an E that says 0.
-pub fn sequence(rng: &mut Rng, letters: &[u8]) -> Draft {
+pub fn sequence(edition: Edition, rng: &mut Rng, letters: &[u8]) -> Draft {
     let held = random_held(rng);
     let quarter = random_quarter(rng, held);
-    let mut draft = Draft::new(held, quarter);
+    let mut draft = Draft::new(edition, held, quarter);
     for (place, letter) in letters.iter().enumerate() {
         let is_e = matches!(letter, b'E' | b'0');
         let mut record = record_for(rng, &draft, place, if is_e { b'E' } else { *letter });

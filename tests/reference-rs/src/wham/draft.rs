@@ -1,9 +1,10 @@
 //! Drafts of amended withholding files, and tidy records to make them of; other modules break them.
 //! `valid` makes random ones.
 //!
-//! The columns here are typed from source document 001 once more, not taken from `layout`.
+//! The columns here are typed from source documents 001 and 002 once more, not taken from `layout`.
 
 use super::layout::LENGTH;
+use super::Edition;
 use crate::calendar::Quarter;
 use crate::draft::{header, put, put_number, Address, Line, ENDS, LF};
 use crate::rng::Rng;
@@ -13,7 +14,16 @@ pub const MOST_OF_S: u64 = 999_999_999_999;
 pub const MOST_OF_PAYMENTS: u64 = 99_999_999_999;
 pub const MOST_OF_T: u64 = 99_999_999_999_999;
 
-/// The ends of columns that 001 calls "Not used by State of Maine", by record.
+/// The letters of an edition's records.
+pub fn records(edition: Edition) -> &'static [u8] {
+    match edition {
+        Edition::Of2024 => b"AESRTF",
+        Edition::Of2020 => b"ABESRTF",
+    }
+}
+
+/// The ends of columns that both documents call "Not used by State of Maine", by record; a B has
+/// none.
 pub const IGNORED: [(u8, usize, usize); 21] = [
     (b'A', 19, 23),
     (b'A', 141, 153),
@@ -41,6 +51,7 @@ pub const IGNORED: [(u8, usize, usize); 21] = [
 /// An input being made: a header and lines.
 #[derive(Clone, Debug, PartialEq, Eq)]
 pub struct Draft {
+    pub edition: Edition,
     pub header: Vec<u8>,
     pub held: Quarter,
     /// A's year and the first E's month.
@@ -67,8 +78,9 @@ impl Sums {
 }
 
 impl Draft {
-    pub fn new(held: Quarter, quarter: Quarter) -> Draft {
+    pub fn new(edition: Edition, held: Quarter, quarter: Quarter) -> Draft {
         Draft {
+            edition,
             header: header(held),
             held,
             quarter,
@@ -124,6 +136,34 @@ impl Draft {
         }
     }
 
+    /// The places of the B and E records of the return that a line put in at this place would stand
+    /// in.
+    pub fn notes_and_e(&self, place: usize) -> Vec<usize> {
+        let is_within = |p: &usize| !b"ATF".contains(&self.lines[*p].letter());
+        let above = (0..place).rev().take_while(is_within).count();
+        let below = (place..self.lines.len()).take_while(is_within).count();
+        let all = place - above..place + below;
+        all.filter(|p| self.is(*p, b'B') || self.is(*p, b'E'))
+            .collect()
+    }
+
+    /// FEIN and account of that return, as its first B or E has them; none if it has neither.
+    pub fn return_at(&self, place: usize) -> Option<(u64, Vec<u8>)> {
+        let first = *self.notes_and_e(place).first()?;
+        let line = &self.lines[first];
+        let account_at = account_at(line.letter());
+        let account = line.columns(account_at, account_at + 10);
+        Some((line.value(6, 14), account))
+    }
+
+    /// Whether a line stands under an E: whether an E is the last line up to it, itself among them,
+    /// that is neither S, R nor B.
+    pub fn is_under_e(&self, place: usize) -> bool {
+        let mut up_to_it = (0..=place).rev();
+        let head = up_to_it.find(|p| !b"SRB".contains(&self.lines[*p].letter()));
+        head.is_some_and(|head| self.is(head, b'E'))
+    }
+
     pub fn push(&mut self, text: Vec<u8>) {
         self.lines.push(Line::new(text, LF));
     }
@@ -137,8 +177,10 @@ impl Draft {
     }
 
     /// Writes the totals of all T and F records anew from the S records before them; the payments
-    /// of a T stay, and so does a hyphen before an amount of zero.
+    /// of a T stay, in 2020 its total of all employees too, and so does a hyphen before an amount of
+    /// zero.
     pub fn total(&mut self) {
+        let edition = self.edition;
         let (mut under, mut file, mut e) = (Sums::default(), Sums::default(), 0);
         for line in self.lines.iter_mut().filter(|l| l.text.len() == LENGTH) {
             match line.letter() {
@@ -147,7 +189,7 @@ impl Draft {
                     under.add(line);
                     file.add(line);
                 }
-                b'T' => put_totals(line, under),
+                b'T' => put_totals(edition, line, under),
                 b'F' => {
                     line.put_number(2, 11, file.s);
                     line.put_number(12, 21, e);
@@ -168,10 +210,28 @@ impl Draft {
     }
 }
 
-fn put_totals(t: &mut Line, under: Sums) {
+/// The first column of the account in a B, E or S record.
+pub fn account_at(letter: u8) -> usize {
+    match letter {
+        b'B' => 265,
+        b'E' => 258,
+        _ => 215,
+    }
+}
+
+fn put_totals(edition: Edition, t: &mut Line, under: Sums) {
     t.put_number(2, 8, under.s);
-    t.put_number(175, 188, under.original);
-    t.put_number(213, 226, under.correct);
+    match edition {
+        Edition::Of2024 => {
+            t.put_number(175, 188, under.original);
+            t.put_number(213, 226, under.correct);
+        }
+        Edition::Of2020 => {
+            let is_minus_zero = under.correct == 0 && t.columns(175, 175) == b"-";
+            let first = 175 + usize::from(is_minus_zero);
+            t.put_number(first, 188, under.correct);
+        }
+    }
     put_due(t);
 }
 
@@ -217,6 +277,17 @@ pub fn record_a(year: u64, fein: u64, address: &Address) -> Vec<u8> {
     put(&mut a, 164, b"JO SMITH");
     put(&mut a, 194, b"2075551212");
     a
+}
+
+/// A tidy B record, of a return of this FEIN and account.
+pub fn record_b(year: u64, fein: u64, account: &[u8]) -> Vec<u8> {
+    let mut b = blank_record(b'B');
+    put_number(&mut b, 2, 5, year);
+    put_number(&mut b, 6, 14, fein);
+    put(&mut b, 15, b"WHAM");
+    put(&mut b, 19, b"HOURS OF MARCH CORRECTED");
+    put(&mut b, 265, account);
+    b
 }
 
 /// A tidy E record of an employer that has no payroll processor.
@@ -273,7 +344,8 @@ pub fn record_r(quarter: Quarter, amount: u64) -> Vec<u8> {
     r
 }
 
-/// A T record with this count, these payments, and totals, original and correct.
+/// A T record with this count, these payments, and the amounts of 175-188 and 213-226: in 2024 the
+/// original and the correct total, in 2020 the correct one and that of all employees.
 pub fn record_t(s: u64, payments: u64, totals: (u64, u64)) -> Vec<u8> {
     let mut t = Line::new(blank_record(b'T'), LF);
     t.put_number(2, 8, s);
@@ -301,6 +373,8 @@ pub enum Under {
     S(u64, u64, u64),
     /// An R of this amount.
     R(u64),
+    /// A B; in 2020 alone.
+    B,
 }
 
 /// An employer of a tidy file.
@@ -308,8 +382,12 @@ pub enum Under {
 pub struct Employer {
     pub fein: u64,
     pub under: Vec<Under>,
-    /// The payments of its T; none if it has no T.
+    /// The payments of its T; none if it has no T. In 2020 each has one, and none stands for zero.
     pub payments: Option<u64>,
+    /// How many B records stand before its E; in 2020 alone.
+    pub notes: usize,
+    /// The tax of its employees that have no S record, which 2020 adds in T 213-226.
+    pub others: u64,
 }
 
 impl Employer {
@@ -320,6 +398,8 @@ impl Employer {
             fein,
             under: employees.iter().map(s).collect(),
             payments: Some(0),
+            notes: 1,
+            others: 0,
         }
     }
 
@@ -335,38 +415,57 @@ impl Employer {
     fn says_1(&self) -> bool {
         self.under.iter().any(|one| matches!(one, Under::S(..)))
     }
+
+    /// What T 213-226 says in 2020, where it is not written anew.
+    fn total(&self) -> u64 {
+        let correct = self.under.iter().map(|one| match one {
+            Under::S(_, _, correct) => *correct,
+            _ => 0,
+        });
+        self.others + correct.sum::<u64>()
+    }
 }
 
 /// A tidy file of these employers.
-pub fn tidy(held: Quarter, quarter: Quarter, employers: &[Employer]) -> Draft {
-    let mut draft = Draft::new(held, quarter);
+pub fn tidy(edition: Edition, held: Quarter, quarter: Quarter, employers: &[Employer]) -> Draft {
+    let mut draft = Draft::new(edition, held, quarter);
     draft.push(record_a(quarter.year, 10_101_010, &AUGUSTA));
     for employer in employers {
-        draft.push(record_e(quarter, employer.fein, employer.says_1(), ACCOUNT));
-        for one in &employer.under {
-            draft.push(match *one {
-                Under::S(id, original, correct) => {
-                    record_s(quarter, id, (original, correct), ACCOUNT)
-                }
-                Under::R(amount) => record_r(quarter, amount),
-            });
-        }
-        if let Some(payments) = employer.payments {
-            draft.push(record_t(0, payments, (0, 0)));
-        }
+        push_return(&mut draft, employer);
     }
     draft.push(record_f(0, 0, 0));
     draft.total();
     draft
 }
 
-/// The rule list's first worked case: A E1 S(100000, 123456) S(50, 44) R T F.
-pub fn example(held: Quarter, quarter: Quarter) -> Draft {
+fn push_return(draft: &mut Draft, employer: &Employer) {
+    let (edition, quarter) = (draft.edition, draft.quarter);
+    let b = || record_b(quarter.year, employer.fein, ACCOUNT);
+    let notes = if edition.has_b() { employer.notes } else { 0 };
+    (0..notes).for_each(|_| draft.push(b()));
+    draft.push(record_e(quarter, employer.fein, employer.says_1(), ACCOUNT));
+    for one in &employer.under {
+        draft.push(match *one {
+            Under::S(id, original, correct) => record_s(quarter, id, (original, correct), ACCOUNT),
+            Under::R(amount) => record_r(quarter, amount),
+            Under::B => b(),
+        });
+    }
+    let zero = edition.always_has_t().then_some(0);
+    if let Some(payments) = employer.payments.or(zero) {
+        let total = if edition.has_b() { employer.total() } else { 0 };
+        draft.push(record_t(0, payments, (0, total)));
+    }
+}
+
+/// The rule list's first worked case, A E1 S(100000, 123456) S(50, 44) R T F; in 2020 with a B
+/// before its E.
+pub fn example(edition: Edition, held: Quarter, quarter: Quarter) -> Draft {
     let mut employer = Employer::of(
         12_345_678,
         &[(1_020_003, 100_000, 123_456), (1_020_003, 50, 44)],
     );
     employer.under.push(Under::R(100));
     employer.payments = Some(100_050);
-    tidy(held, quarter, &[employer])
+    tidy(edition, held, quarter, &[employer])
 }

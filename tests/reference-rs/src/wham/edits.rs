@@ -9,7 +9,7 @@ use super::Edition;
 use crate::calendar::Quarter;
 use crate::edits::{Finding, Phase, Refusal};
 use crate::lines::Cut;
-use crate::walk::State;
+use crate::walk::{OpenE, State};
 
 /// "an S, an R or a B when the file already has 100,000 of that letter"
 pub const MOST_OF_A_LETTER: u64 = 100_000;
@@ -58,22 +58,55 @@ const PLACES_2024: [[u8; 6]; 6] = [
     [11, 20, 20, 20, 20, 19],
 ];
 
+/// 2.2, likewise.
+const PLACES_2020: [[u8; 7]; 10] = [
+    [0, 10, 10, 10, 10, 10, 10],
+    [11, 0, 0, 12, 12, 13, 14],
+    [11, 0, 0, 12, 12, 13, 14],
+    [11, 0, 15, 0, 0, 100, 17],
+    [11, 0, 15, 0, 0, 0, 17],
+    [11, 0, 15, 16, 0, 100, 17],
+    [11, 0, 15, 16, 0, 0, 17],
+    [11, 0, 0, 12, 12, 18, 0],
+    [11, 0, 0, 12, 12, 18, 100],
+    [11, 100, 20, 20, 20, 20, 19],
+];
+
 /// The number that a letter gets where a walk stands; none if it is in place. An open E's row goes
-/// by what it says.
-pub fn place(edition: Edition, phase: Phase, says_s_follow: bool, letter: u8) -> Option<u8> {
-    let row = match (phase, says_s_follow) {
+/// by what it says, and in 2020 a return's by whether it has a B.
+pub fn place(edition: Edition, phase: Phase, open: &OpenE, letter: u8) -> Option<u8> {
+    let column = letters(edition).iter().position(|own| *own == letter);
+    let column = column.expect("4 comes first");
+    let number = match edition {
+        Edition::Of2024 => PLACES_2024[row_of_2024(phase, open.says_s_follow)][column],
+        Edition::Of2020 => {
+            PLACES_2020[row_of_2020(phase, open.says_s_follow, open.more.noted)][column]
+        }
+    };
+    Some(number).filter(|number| *number != 0)
+}
+
+fn row_of_2024(phase: Phase, says_s_follow: bool) -> usize {
+    match (phase, says_s_follow) {
         (Phase::BeforeA, _) => 0,
         (Phase::AfterA, _) => 1,
         (Phase::EOpen, true) => 2,
         (Phase::EOpen, false) => 3,
         (Phase::AfterT, _) => 4,
         (Phase::AfterF, _) => 5,
+    }
+}
+
+fn row_of_2020(phase: Phase, says_s_follow: bool, has_a_b: bool) -> usize {
+    let without_b = match (phase, says_s_follow) {
+        (Phase::BeforeA, _) => return 0,
+        (Phase::AfterA, _) => 1,
+        (Phase::EOpen, true) => 3,
+        (Phase::EOpen, false) => 5,
+        (Phase::AfterT, _) => 7,
+        (Phase::AfterF, _) => return 9,
     };
-    let column = letters(edition).iter().position(|own| *own == letter);
-    let places = match edition {
-        Edition::Of2024 => &PLACES_2024,
-    };
-    Some(places[row][column.expect("4 comes first")]).filter(|number| *number != 0)
+    without_b + usize::from(has_a_b)
 }
 
 /// "Other letters are 4 in every phase, before any place rule." "ok: the letter is in place; then
@@ -83,13 +116,13 @@ fn edit_place(record: &Record, before: &Before) -> Finding {
     if !letters(before.edition).contains(&letter) {
         return Err(broken(4, 1));
     }
-    let says_s_follow = state.open.says_s_follow;
-    if let Some(number) = place(before.edition, before.phase, says_s_follow, letter) {
+    if let Some(number) = place(before.edition, before.phase, &state.open, letter) {
         return Err(broken(number, 1));
     }
     let of_letter = match letter {
         b'S' => state.s,
         b'R' => state.more.others,
+        b'B' => state.more.notes,
         _ => 0,
     };
     match of_letter >= MOST_OF_A_LETTER {
@@ -112,22 +145,33 @@ fn is_broken(number: u8, record: &Record, row: &Row, before: &Before) -> bool {
         46 => record.account(columns(row)) != state.open.more.account,
         55 => value() != state.open.s,
         56 => state.open.s == 0 && state.open.says_s_follow,
-        57 => value() != sum_under_e(row, state),
+        57 => record.signed(columns(row)) != Some(sum_under_e(before.edition, row, state)),
         58 => value() != state.s,
         59 => value() != state.employers,
         60 => value() != state.cents,
         63 => state.employers >= MOST_EMPLOYERS.min(before.list as u64),
         91 => value() != last_day(filed),
+        101 => value() != filed.year,
+        102 => has_b_or_e(before) && value() != state.open.fein,
+        104 => has_b_or_e(before) && record.account(columns(row)) != state.open.more.account,
         _ => unreachable!("no such rule"),
     }
 }
 
-/// "T 175-188 isn't the sum of S 191-202 (2024) [...]; T 213-226 isn't the sum of S 203-214"
-fn sum_under_e(row: &Row, state: &State) -> u64 {
-    match columns(row) == layout::CORRECT_IN_T {
-        true => state.open.cents,
-        false => state.open.more.second,
-    }
+/// Whether "B or E lines of the same return" stand before a line: then the state has their FEIN and
+/// account. (An E is never read here while one is open: 15.)
+fn has_b_or_e(before: &Before) -> bool {
+    before.phase == Phase::EOpen || before.state.open.more.noted
+}
+
+/// "T 175-188 isn't the sum of S 191-202 (2024) or of S 203-214 (2020) under the open E; 2024: T
+/// 213-226 isn't the sum of S 203-214 under it."
+fn sum_under_e(edition: Edition, row: &Row, state: &State) -> i128 {
+    let sum = match (edition, columns(row)) {
+        (Edition::Of2024, layout::SUM_IN_T) => state.open.more.second,
+        _ => state.open.cents,
+    };
+    sum.into()
 }
 
 /// "0331, 0630, 0930 or 1231 for its month, then A's year"
@@ -141,7 +185,7 @@ fn last_day(filed: Quarter) -> u64 {
     month_and_day * 10_000 + filed.year
 }
 
-/// The last column of 2.1: "lines read + 1, column 1".
+/// The last column of 2.1 and of 2.2: "lines read + 1, column 1".
 pub fn edit_input_end(phase: Phase, lines_read: u64) -> Result<(), Refusal> {
     let number = match phase {
         Phase::BeforeA => 5,

@@ -8,7 +8,8 @@ use super::breaks::{self, Break};
 use super::draft::*;
 use super::layout::LENGTH;
 use super::mutations::{mutated, odd_ends, strange};
-use super::valid::{valid, Size, SMALL};
+use super::valid::{id_near, valid, Size, SMALL};
+use super::Edition;
 use crate::calendar::Quarter;
 use crate::draft::{printable, CR, CRLF, LF};
 use crate::gen::{Case, Meant, Options};
@@ -40,6 +41,22 @@ const MIXTURE: [Group; 30] = {
     ]
 };
 
+/// In 2020 there are more bounds and breaks to come.
+const MIXTURE_OF_2020: [Group; 30] = {
+    let mut mixture = MIXTURE;
+    mixture[2] = Group::Break;
+    mixture[23] = Group::Bound;
+    mixture[25] = Group::Bound;
+    mixture
+};
+
+fn mixture(edition: Edition) -> &'static [Group; 30] {
+    match edition {
+        Edition::Of2024 => &MIXTURE,
+        Edition::Of2020 => &MIXTURE_OF_2020,
+    }
+}
+
 /// Two files that fill the list in so many cases, and where they stand among them.
 const FULL_LIST_EVERY: u64 = 800;
 const FULL_LIST_AT: [u64; 2] = [100, 500];
@@ -53,13 +70,17 @@ const ENOUGH_CASES: u64 = 22_000;
 const ENOUGH_LONG_CASES: u64 = 40;
 
 /// Every number that the program can answer; 0 stands for acceptance.
-pub fn answers() -> impl Iterator<Item = u8> {
+pub fn answers(edition: Edition) -> impl Iterator<Item = u8> {
     let fields = [30, 32, 33, 34, 35, 36, 37, 39, 40, 41, 42, 43, 46, 47, 52];
     let totals = [55, 56, 57, 58, 59, 60, 61, 63, 70, 91];
-    (0..=8).chain(10..=20).chain(fields).chain(totals)
+    let of_2020 = [44, 100, 101, 102, 103, 104];
+    let others = of_2020.into_iter().filter(move |_| edition.has_b());
+    let in_both = (0..=8).chain(10..=20).chain(fields).chain(totals);
+    in_both.chain(others)
 }
 
 pub struct Cases {
+    edition: Edition,
     seed: u64,
     count: u64,
     options: Options,
@@ -71,18 +92,19 @@ pub struct Cases {
 }
 
 impl Cases {
-    pub fn new(seed: u64, count: u64, options: Options) -> Cases {
-        let mut bounds = bounds::all(seed);
+    pub fn new(edition: Edition, seed: u64, count: u64, options: Options) -> Cases {
+        let mut bounds = bounds::all(edition, seed);
         Rng::of(seed, 98, 1).shuffle(&mut bounds);
         Cases {
+            edition,
             seed,
             count,
             options,
             next: 0,
             made: [0; 9],
-            breaks: breaks::all(),
+            breaks: breaks::all(edition),
             bounds,
-            sample: sample().input(),
+            sample: sample(edition).input(),
         }
     }
 
@@ -96,7 +118,9 @@ impl Cases {
             (false, false) => &[61],
         };
         match self.count >= ENOUGH_CASES {
-            true => answers().filter(|n| !left_out.contains(n)).collect(),
+            true => answers(self.edition)
+                .filter(|n| !left_out.contains(n))
+                .collect(),
             false => Vec::new(),
         }
     }
@@ -107,9 +131,10 @@ impl Cases {
         }
         if self.options.long {
             let mut rng = Rng::of(self.seed, 51, index);
-            return Some(big::long(&mut rng, index));
+            return Some(big::long(self.edition, &mut rng, index));
         }
-        let group = MIXTURE[index as usize % MIXTURE.len()];
+        let mixture = mixture(self.edition);
+        let group = mixture[index as usize % mixture.len()];
         let at_fixed_place = self.full_list(index).or_else(|| self.long_run(index));
         Some(at_fixed_place.unwrap_or_else(|| self.of_group(group)))
     }
@@ -123,15 +148,15 @@ impl Cases {
         let kind = FULL_LIST_AT.iter().position(|at| *at == place)?;
         let mut rng = Rng::of(self.seed, 50, index);
         Some(match kind {
-            0 => big::employers_overflow(&mut rng, round),
-            _ => big::full(&mut rng, round),
+            0 => big::employers_overflow(self.edition, &mut rng, round),
+            _ => big::full(self.edition, &mut rng, round),
         })
     }
 
     /// So do long runs.
     fn long_run(&self, index: u64) -> Option<Case> {
         let wanted = !self.options.small && index % RUN_EVERY == RUN_AT;
-        wanted.then(|| big::run(&mut Rng::of(self.seed, 52, index)))
+        wanted.then(|| big::run(self.edition, &mut Rng::of(self.seed, 52, index)))
     }
 
     fn of_group(&mut self, group: Group) -> Case {
@@ -142,26 +167,26 @@ impl Cases {
             Group::Bound => self.bounds[k as usize % self.bounds.len()].clone(),
             Group::Break => self.broken(&mut rng, k),
             Group::Pair => self.broken_twice(&mut rng),
-            Group::Valid => random_valid(&mut rng),
+            Group::Valid => random_valid(self.edition, &mut rng),
             Group::Truncated => self.truncated(k),
             Group::Byte => self.one_byte_changed(&mut rng),
-            Group::Mutated => mutated(&mut rng),
-            Group::Ends => odd_ends(&mut rng),
-            Group::Strange => strange(&mut rng),
+            Group::Mutated => mutated(self.edition, &mut rng),
+            Group::Ends => odd_ends(self.edition, &mut rng),
+            Group::Strange => strange(self.edition, &mut rng),
         }
     }
 
     /// Each break in turn.
     fn broken(&self, rng: &mut Rng, k: u64) -> Case {
         let one = &self.breaks[k as usize % self.breaks.len()];
-        broken("break", rng, one, SMALL)
+        broken(self.edition, "break", rng, one, SMALL)
     }
 
     /// Two breaks of one file, mostly in the same line: which comes first?
     fn broken_twice(&self, rng: &mut Rng) -> Case {
         let in_one_line = !rng.one_in(4);
         loop {
-            let mut draft = valid(rng, SMALL);
+            let mut draft = valid(self.edition, rng, SMALL);
             let first = &self.breaks[rng.index(self.breaks.len())];
             let second = &self.breaks[rng.index(self.breaks.len())];
             let Some(one) = first.apply(rng, &mut draft) else {
@@ -223,9 +248,15 @@ impl Iterator for Cases {
 }
 
 /// A valid file of this size, broken so.
-pub fn broken(group: &'static str, rng: &mut Rng, one: &Break, size: Size) -> Case {
+pub fn broken(
+    edition: Edition,
+    group: &'static str,
+    rng: &mut Rng,
+    one: &Break,
+    size: Size,
+) -> Case {
     loop {
-        let mut draft = valid(rng, size);
+        let mut draft = valid(edition, rng, size);
         if let Some(refusal) = one.apply(rng, &mut draft) {
             let meant = Meant::Refused(refusal);
             return Case::new(group, &one.name, draft.input(), meant);
@@ -233,21 +264,29 @@ pub fn broken(group: &'static str, rng: &mut Rng, one: &Break, size: Size) -> Ca
     }
 }
 
-/// A small file that uses what it can: each record, all three line ends, an R between S records, a
-/// payroll processor, a negative amount due, and an E without T in front.
-pub fn sample() -> Draft {
+/// A small file of seven lines that uses what it can: each record, all three line ends, an R before
+/// the S, a payroll processor, a negative amount due; in 2024 an E without T in front and an account
+/// of other characters than digits, in 2020 more employees than have an S record.
+pub fn sample(edition: Edition) -> Draft {
     let quarter = Quarter::new(2025, 9);
-    let under = vec![Under::R(5), Under::S(123_456_789, 1_234, 567)];
+    let id = id_near(edition, 123_456_789);
     let employer = Employer {
-        under,
+        under: vec![Under::R(5), Under::S(id, 1_234, 567)],
         payments: Some(890),
+        others: 3,
         ..Employer::of(12_345_678, &[])
     };
-    let mut draft = tidy(quarter, quarter, &[Employer::without_t(0), employer]);
+    let employers = match edition {
+        Edition::Of2024 => vec![Employer::without_t(0), employer],
+        Edition::Of2020 => vec![employer],
+    };
+    let mut draft = tidy(edition, quarter, quarter, &employers);
     draft.lines[0].put(204, b"12");
     draft.lines[2].put(209, b"012345677PPA1234");
-    draft.lines[2].put(258, b"1234-5678  ");
-    draft.lines[4].put(215, b"1234-5678  ");
+    if edition == Edition::Of2024 {
+        draft.lines[2].put(258, b"1234-5678  ");
+        draft.lines[4].put(215, b"1234-5678  ");
+    }
     let ends = [CRLF, LF, CR, CRLF, LF, CR, LF];
     for (line, end) in draft.lines.iter_mut().zip(ends) {
         line.end = end.to_vec();
@@ -265,7 +304,7 @@ const SHAPES: [(u64, u64, u64); 6] = [
     (1, 1, 0),
 ];
 
-fn random_valid(rng: &mut Rng) -> Case {
+fn random_valid(edition: Edition, rng: &mut Rng) -> Case {
     let (employers, employees, deposits) = rng.pick(&SHAPES);
     let size = match rng.one_in(5) {
         true => Size {
@@ -275,7 +314,7 @@ fn random_valid(rng: &mut Rng) -> Case {
         },
         false => SMALL,
     };
-    let draft = valid(rng, size);
+    let draft = valid(edition, rng, size);
     Case::new("valid", "", draft.input(), Meant::Accepted)
 }
 
@@ -284,46 +323,54 @@ mod tests {
     use super::*;
 
     /// How many cases of a kind 22,000 have: some places are taken by full lists and long runs.
-    fn slots(group: Group) -> usize {
+    fn slots(edition: Edition, group: Group) -> usize {
+        let mixture = mixture(edition);
         (0..22_000)
             .filter(|index| !FULL_LIST_AT.contains(&(index % FULL_LIST_EVERY)))
             .filter(|index| index % RUN_EVERY != RUN_AT)
-            .filter(|index| MIXTURE[*index as usize % MIXTURE.len()] == group)
+            .filter(|index| mixture[*index as usize % mixture.len()] == group)
             .count()
     }
 
     #[test]
     fn a_run_of_22_000_has_room_for_all() {
-        let (bounds, breaks) = (bounds::all(1).len(), breaks::all().len());
-        assert!(bounds <= slots(Group::Bound), "{bounds}");
-        assert!(20 * breaks <= slots(Group::Break), "{breaks}");
-        let lengths = sample().input().len() + 1;
-        assert!(lengths <= slots(Group::Truncated), "{lengths}");
+        for edition in Edition::BOTH {
+            let slots = |group| slots(edition, group);
+            let (bounds, breaks) = (bounds::all(edition, 1).len(), breaks::all(edition).len());
+            assert!(bounds <= slots(Group::Bound), "{bounds}");
+            assert!(20 * breaks <= slots(Group::Break), "{breaks}");
+            let lengths = sample(edition).input().len() + 1;
+            assert!(lengths <= slots(Group::Truncated), "{lengths}");
+        }
     }
 
     /// The k-th case does not depend on how many there are.
     #[test]
     fn cases_are_the_same_again() {
-        let take = |count| -> Vec<(Vec<u8>, usize)> {
-            let cases = Cases::new(8, count, Options::default());
-            cases.take(90).map(|c| (c.input, c.piece)).collect()
-        };
-        assert_eq!(take(90), take(22_000));
+        for edition in Edition::BOTH {
+            let take = |count| -> Vec<(Vec<u8>, usize)> {
+                let cases = Cases::new(edition, 8, count, Options::default());
+                cases.take(90).map(|c| (c.input, c.piece)).collect()
+            };
+            assert_eq!(take(90), take(22_000));
+        }
     }
 
     #[test]
     fn what_is_promised() {
-        let promised = |count, options| Cases::new(1, count, options).promised();
-        let usual = Options::default();
-        assert_eq!(promised(21_999, usual), []);
-        // Acceptance, 8 + 11 + 15 + 9 numbers, 61 left out.
-        assert_eq!(promised(22_000, usual).len(), 44);
-        assert!(!promised(22_000, usual).contains(&61));
-        let long = Options {
-            long: true,
-            ..usual
-        };
-        assert_eq!(promised(39, long), []);
-        assert_eq!(promised(40, long), [61]);
+        // Acceptance, 8 + 11 + 15 + 9 numbers, 61 left out; in 2020 6 more.
+        for (edition, numbers) in [(Edition::Of2024, 44), (Edition::Of2020, 50)] {
+            let promised = |count, options| Cases::new(edition, 1, count, options).promised();
+            let usual = Options::default();
+            assert_eq!(promised(21_999, usual), []);
+            assert_eq!(promised(22_000, usual).len(), numbers);
+            assert!(!promised(22_000, usual).contains(&61));
+            let long = Options {
+                long: true,
+                ..usual
+            };
+            assert_eq!(promised(39, long), []);
+            assert_eq!(promised(40, long), [61]);
+        }
     }
 }

@@ -15,10 +15,22 @@ use crate::pieces;
 use crate::rng::Rng;
 
 /// What is counted of them: no field of an S record is asked about.
-pub const WANTED: Wanted = Wanted {
+pub fn wanted(edition: Edition) -> &'static Wanted {
+    match edition {
+        Edition::Of2024 => &WANTED,
+        Edition::Of2020 => &WANTED_OF_2020,
+    }
+}
+
+static WANTED: Wanted = Wanted {
     length: LENGTH,
     fields: &[],
     numbers: 38,
+};
+
+static WANTED_OF_2020: Wanted = Wanted {
+    numbers: 44,
+    ..WANTED
 };
 
 pub struct Pair {
@@ -34,7 +46,7 @@ pub fn make(
     count: u64,
     options: Options,
 ) -> impl Iterator<Item = Pair> {
-    let firsts = Firsts::new(seed, options).enumerate();
+    let firsts = Firsts::new(edition, seed, options).enumerate();
     let of = move |(k, case)| pair_from(edition, &mut Rng::of(seed, 45, k as u64), case);
     firsts.filter_map(of).take(count as usize)
 }
@@ -159,15 +171,17 @@ mod tests {
             small: true,
             ..Options::default()
         };
-        let mut facts = Facts::of(&WANTED);
-        for pair in make(Edition::Of2024, 3, 3_000, options) {
-            let found = pair
-                .cases()
-                .map(|case| Format::WHAM_2024.outcome(&case.input));
-            assert_eq!(pair.check(&found), Ok(()));
-            facts.count(pair.cases(), &found[0]);
+        for edition in Edition::BOTH {
+            let mut facts = Facts::of(wanted(edition));
+            for pair in make(edition, 3, 3_000, options) {
+                let found = pair
+                    .cases()
+                    .map(|case| edition.format().outcome(&case.input));
+                assert_eq!(pair.check(&found), Ok(()));
+                facts.count(pair.cases(), &found[0]);
+            }
+            assert_eq!(facts.finish(), Ok(()));
         }
-        assert_eq!(facts.finish(), Ok(()));
     }
 
     #[test]

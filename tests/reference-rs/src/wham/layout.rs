@@ -15,10 +15,12 @@ pub enum Class {
     Any,
     Number,
     Money,
+    Signed,
     /// T 123-136: signed, and then what its own line makes of it (57).
     Due,
     Required,
     Optional,
+    Explanation,
     Licence,
     Account,
     Entity,
@@ -78,7 +80,17 @@ const A: [Row; 16] = [
     own(208, 275, Class::Ignored),
 ];
 
-/// 1.5
+/// 1.4
+const B: [Row; 6] = [
+    own(1, 1, Class::Letter),
+    with(2, 5, Class::Year, &[101]),
+    with(6, 14, Class::Fein, &[102]),
+    own(15, 18, Class::Entity),
+    own(19, 264, Class::Explanation),
+    with(265, 275, Class::Number, &[104]),
+];
+
+/// 1.5, the column of 2024.
 const E: [Row; 24] = [
     own(1, 1, Class::Letter),
     with(2, 5, Class::Year, &[42]),
@@ -105,6 +117,14 @@ const E: [Row; 24] = [
     own(258, 268, Class::Account),
     own(269, 275, Class::Ignored),
 ];
+
+/// 1.5, the column of 2020.
+const E_2020: [Row; 24] = {
+    let mut rows = E;
+    rows[2] = with(6, 14, Class::Fein, &[102, 63]);
+    rows[22] = with(258, 268, Class::Account, &[104]);
+    rows
+};
 
 /// 1.6
 const S: [Row; 15] = [
@@ -134,7 +154,7 @@ const R: [Row; 5] = [
     own(28, 275, Class::Ignored),
 ];
 
-/// 1.8
+/// 1.8, the column of 2024.
 const T: [Row; 11] = [
     own(1, 1, Class::Letter),
     with(2, 8, Class::Number, &[55, 56]),
@@ -149,6 +169,14 @@ const T: [Row; 11] = [
     own(227, 275, Class::Ignored),
 ];
 
+/// 1.8, the column of 2020.
+const T_2020: [Row; 11] = {
+    let mut rows = T;
+    rows[7] = with(175, 188, Class::Signed, &[57]);
+    rows[9] = own(213, 226, Class::Number);
+    rows
+};
+
 /// 1.9
 const F: [Row; 7] = [
     own(1, 1, Class::Letter),
@@ -160,22 +188,26 @@ const F: [Row; 7] = [
     own(56, 275, Class::Ignored),
 ];
 
-/// The letters of an edition, in the order of the table of places (2.1).
+/// The letters of an edition, in the order of its table of places (2.1, 2.2).
 pub fn letters(edition: Edition) -> &'static [u8] {
     match edition {
         Edition::Of2024 => b"AESRTF",
+        Edition::Of2020 => b"ABESRTF",
     }
 }
 
 /// The fields of a record, by first column; none for another letter.
 pub fn fields_of(edition: Edition, letter: u8) -> &'static [Row] {
     match (edition, letter) {
-        (Edition::Of2024, b'A') => &A,
+        (_, b'A') => &A,
+        (Edition::Of2020, b'B') => &B,
         (Edition::Of2024, b'E') => &E,
-        (Edition::Of2024, b'S') => &S,
-        (Edition::Of2024, b'R') => &R,
+        (Edition::Of2020, b'E') => &E_2020,
+        (_, b'S') => &S,
+        (_, b'R') => &R,
         (Edition::Of2024, b'T') => &T,
-        (Edition::Of2024, b'F') => &F,
+        (Edition::Of2020, b'T') => &T_2020,
+        (_, b'F') => &F,
         _ => &[],
     }
 }
@@ -184,6 +216,8 @@ pub fn fields_of(edition: Edition, letter: u8) -> &'static [Row] {
 pub type Columns = (usize, usize);
 pub const YEAR_IN_A: Columns = (2, 5);
 pub const STATE: Columns = (139, 140);
+pub const FEIN_IN_B: Columns = (6, 14);
+pub const ACCOUNT_IN_B: Columns = (265, 275);
 pub const FEIN_IN_E: Columns = (6, 14);
 pub const MONTH_IN_E: Columns = (188, 189);
 pub const S_FOLLOW_IN_E: usize = 190;
@@ -192,34 +226,49 @@ pub const ACCOUNT_IN_E: Columns = (258, 268);
 pub const ORIGINAL_IN_S: Columns = (191, 202);
 pub const CORRECT_IN_S: Columns = (203, 214);
 pub const PAYMENTS_IN_T: Columns = (112, 122);
-pub const CORRECT_IN_T: Columns = (213, 226);
+pub const SUM_IN_T: Columns = (175, 188);
+pub const TOTAL_IN_T: Columns = (213, 226);
 
 #[cfg(test)]
 mod tests {
     use super::*;
 
-    const EDITION: Edition = Edition::Of2024;
-
     /// "The rows of every record tile 1 to 275"
     #[test]
     fn fields_fill_every_record() {
-        for letter in letters(EDITION) {
-            let mut next = 1;
-            for row in fields_of(EDITION, *letter) {
-                assert_eq!(row.first, next);
-                assert!(row.last >= row.first);
-                next = row.last + 1;
+        for edition in Edition::BOTH {
+            for letter in letters(edition) {
+                let mut next = 1;
+                for row in fields_of(edition, *letter) {
+                    assert_eq!(row.first, next);
+                    assert!(row.last >= row.first);
+                    next = row.last + 1;
+                }
+                assert_eq!(next, LENGTH + 1);
             }
-            assert_eq!(next, LENGTH + 1);
         }
     }
 
-    /// "78 fields in 2024 (16 + 24 + 15 + 5 + 11 + 7)"
+    /// "78 fields in 2024 (16 + 24 + 15 + 5 + 11 + 7), 84 in 2020."
     #[test]
-    fn seventy_eight_fields() {
-        let counts = b"AESRTF".map(|letter| fields_of(EDITION, letter).len());
-        assert_eq!(counts, [16, 24, 15, 5, 11, 7]);
-        assert_eq!(counts.iter().sum::<usize>(), 78);
-        assert!(fields_of(EDITION, b'B').is_empty());
+    fn numbers_of_fields() {
+        let counts = |edition| b"ABESRTF".map(|letter| fields_of(edition, letter).len());
+        assert_eq!(counts(Edition::Of2024), [16, 0, 24, 15, 5, 11, 7]);
+        assert_eq!(counts(Edition::Of2020), [16, 6, 24, 15, 5, 11, 7]);
+        let all = Edition::BOTH.map(|edition| counts(edition).iter().sum::<usize>());
+        assert_eq!(all, [78, 84]);
+    }
+
+    /// "Columns are the same in both editions."
+    #[test]
+    fn columns_are_the_same() {
+        let columns = |edition, letter| -> Vec<Columns> {
+            let rows = fields_of(edition, letter).iter();
+            rows.map(|row| (row.first, row.last)).collect()
+        };
+        for letter in *letters(Edition::Of2024).first_chunk::<6>().unwrap() {
+            let [one, other] = Edition::BOTH.map(|edition| columns(edition, letter));
+            assert_eq!(one, other);
+        }
     }
 }

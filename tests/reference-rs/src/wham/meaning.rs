@@ -18,17 +18,23 @@ use crate::meaning::{Accepted, Entry, Outcome};
 /// What the lines before a line come to.
 #[derive(Clone, Copy, Default)]
 pub struct Note {
-    /// How many are S, R and E records.
+    /// How many are S, R, B and E records.
     pub s: u64,
     pub r: u64,
+    pub b: u64,
     pub e: u64,
     /// The sums of S 191-202 and of S 203-214.
     pub original: u128,
     pub correct: u128,
     /// The place of the first E.
     first_e: Option<usize>,
-    /// The place of the last line that is neither S nor R: an R, as an S, leaves its E open.
+    /// The place of the last line that is neither S, R nor B: an R or a B, as an S, leaves its E
+    /// open.
     head: Option<usize>,
+    /// Of the present return, "the lines after A or the last T", how many are B records, and the
+    /// place of the first that is a B or an E.
+    pub b_of_return: u64,
+    first_of_return: Option<usize>,
 }
 
 /// A file as its lines.
@@ -164,9 +170,15 @@ impl<'a> View<'a> {
         })
     }
 
-    /// The last line before it that is neither S nor R.
+    /// The last line before it that is neither S, R nor B.
     pub fn head(&self) -> Option<View<'a>> {
         self.before().head.map(|place| self.sheet.view(place))
+    }
+
+    /// The first B or E before it in the same return.
+    pub fn first_of_return(&self) -> Option<View<'a>> {
+        let place = self.before().first_of_return;
+        place.map(|place| self.sheet.view(place))
     }
 
     /// The first line of the file, which is its A.
@@ -202,12 +214,20 @@ impl<'a> View<'a> {
                 note.correct += self.value(203, 214).unwrap_or(0);
             }
             b'R' => note.r += 1,
-            letter => {
+            b'B' => {
+                note.b += 1;
+                note.b_of_return += 1;
+                note.first_of_return = note.first_of_return.or(Some(self.place));
+            }
+            b'E' => {
                 note.head = Some(self.place);
-                if letter == b'E' {
-                    note.e += 1;
-                    note.first_e = note.first_e.or(Some(self.place));
-                }
+                note.e += 1;
+                note.first_e = note.first_e.or(Some(self.place));
+                note.first_of_return = note.first_of_return.or(Some(self.place));
+            }
+            _ => {
+                note.head = Some(self.place);
+                (note.b_of_return, note.first_of_return) = (0, None);
             }
         }
         note
@@ -217,7 +237,7 @@ impl<'a> View<'a> {
     /// neither S, R nor (2020) B".
     fn entry(&self) -> Entry {
         let behind = (self.place + 1..self.sheet.lines.len()).map(|place| self.sheet.view(place));
-        let under = behind.take_while(|line| matches!(line.letter(), b'S' | b'R'));
+        let under = behind.take_while(|line| matches!(line.letter(), b'S' | b'R' | b'B'));
         let people: Vec<View> = under.filter(|line| line.letter() == b'S').collect();
         let correct = people.iter().filter_map(|s| s.value(203, 214));
         let fein = self.value(6, 14).expect("it is accepted");

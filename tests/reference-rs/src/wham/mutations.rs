@@ -34,8 +34,8 @@ const ODD_ENDS: [&[u8]; 17] = [
 ];
 
 /// Line ends mixed, missing, doubled, or not line ends at all.
-pub fn odd_ends(rng: &mut Rng) -> Case {
-    let mut draft = valid(rng, SMALL);
+pub fn odd_ends(edition: Edition, rng: &mut Rng) -> Case {
+    let mut draft = valid(edition, rng, SMALL);
     for line in &mut draft.lines {
         line.end = rng.pick(&ENDS).to_vec();
     }
@@ -53,10 +53,10 @@ pub fn odd_ends(rng: &mut Rng) -> Case {
 }
 
 /// One to three changes of a valid file, or of any sequence of records.
-pub fn mutated(rng: &mut Rng) -> Case {
+pub fn mutated(edition: Edition, rng: &mut Rng) -> Case {
     let mut draft = match rng.below(4) {
-        0 => random_sequence(rng),
-        _ => valid(rng, SMALL),
+        0 => random_sequence(edition, rng),
+        _ => valid(edition, rng, SMALL),
     };
     for _ in 0..rng.between(1, 3) {
         mutate_lines(rng, &mut draft);
@@ -69,27 +69,49 @@ pub fn mutated(rng: &mut Rng) -> Case {
 }
 
 /// Five to twelve records, each most often one that may follow; `0` is an E that says 0.
-fn random_sequence(rng: &mut Rng) -> Draft {
+fn random_sequence(edition: Edition, rng: &mut Rng) -> Draft {
     let mut letters = vec![b'A'];
-    let mut says_0 = false;
+    let all = bounds::letters(edition);
     for _ in 0..rng.between(4, 11) {
-        let may_follow: &[u8] = match letters.last() {
-            Some(b'A') => b"E0",
-            Some(b'E' | b'S' | b'R') if !says_0 => b"SSRT",
-            Some(b'0' | b'R') => b"RT0EF",
-            Some(b'T') => b"E0F",
-            _ => b"AE0SRTF",
+        let may_follow = match edition {
+            Edition::Of2024 => may_follow(&letters),
+            Edition::Of2020 => may_follow_in_2020(&letters),
         };
         let next = match rng.one_in(12) {
-            true => rng.pick(b"AE0SRTF"),
+            true => rng.pick(all),
             false => rng.pick(may_follow),
         };
-        if matches!(next, b'E' | b'0') {
-            says_0 = next == b'0';
-        }
         letters.push(next);
     }
-    bounds::sequence(rng, &letters)
+    bounds::sequence(edition, rng, &letters)
+}
+
+/// Whether the last E of a sequence says 0.
+fn says_0(letters: &[u8]) -> bool {
+    let mut behind = letters.iter().rev();
+    behind.find(|letter| b"E0".contains(letter)) == Some(&b'0')
+}
+
+fn may_follow(letters: &[u8]) -> &'static [u8] {
+    match letters.last() {
+        Some(b'A') => b"E0",
+        Some(b'E' | b'S' | b'R') if !says_0(letters) => b"SSRT",
+        Some(b'0' | b'R') => b"RT0EF",
+        Some(b'T') => b"E0F",
+        _ => b"AE0SRTF",
+    }
+}
+
+/// By the last line that is no B, which changes nothing of what may follow but T and F.
+fn may_follow_in_2020(letters: &[u8]) -> &'static [u8] {
+    let head = letters.iter().rev().find(|letter| **letter != b'B');
+    match head {
+        Some(b'A') => b"BBE0",
+        Some(b'E' | b'S' | b'R') if !says_0(letters) => b"SSRBTT",
+        Some(b'0' | b'R') => b"RBTT",
+        Some(b'T') => b"BBE0FF",
+        _ => b"ABE0SRTF",
+    }
 }
 
 fn mutate_lines(rng: &mut Rng, draft: &mut Draft) {
@@ -104,20 +126,20 @@ fn mutate_lines(rng: &mut Rng, draft: &mut Draft) {
         2 => drop(draft.lines.remove(place)),
         3 => draft.lines.insert(place, draft.lines[other].clone()),
         4 => copy_field(rng, draft, place, other),
-        5 | 6 => refill_field(rng, &mut draft.lines[place]),
+        5 | 6 => refill_field(rng, draft, place),
         7 => nudge_digit(rng, &mut draft.lines[place].text),
         8 => draft.lines[place].end = rng.pick(&ENDS).to_vec(),
         9 => {
-            let letter = rng.pick(b"AESRTF");
+            let letter = rng.pick(records(draft.edition));
             let record = record_for(rng, draft, place, letter);
             draft.insert(place, record);
         }
         10 => {
-            refill_field(rng, &mut draft.lines[place]);
+            refill_field(rng, draft, place);
             draft.total();
         }
         _ => {
-            let line = odd_line(rng);
+            let line = odd_line(draft.edition, rng);
             draft.insert(place, line);
         }
     }
@@ -137,7 +159,7 @@ fn change_byte(rng: &mut Rng, text: &mut [u8]) {
 
 /// Copies the same columns from another line.
 fn copy_field(rng: &mut Rng, draft: &mut Draft, place: usize, other: usize) {
-    let Some((first, last)) = some_field(rng, &draft.lines[place]) else {
+    let Some((first, last)) = some_field(rng, draft, place) else {
         return;
     };
     if draft.lines[other].text.len() == LENGTH {
@@ -146,8 +168,9 @@ fn copy_field(rng: &mut Rng, draft: &mut Draft, place: usize, other: usize) {
     }
 }
 
-fn some_field(rng: &mut Rng, line: &Line) -> Option<(usize, usize)> {
-    let fields = fields_of(Edition::Of2024, line.letter());
+fn some_field(rng: &mut Rng, draft: &Draft, place: usize) -> Option<(usize, usize)> {
+    let line = &draft.lines[place];
+    let fields = fields_of(draft.edition, line.letter());
     if fields.is_empty() || line.text.len() != LENGTH {
         return None;
     }
@@ -156,8 +179,8 @@ fn some_field(rng: &mut Rng, line: &Line) -> Option<(usize, usize)> {
 }
 
 /// Fills a field with blanks, zeros, nines, digits or other text.
-fn refill_field(rng: &mut Rng, line: &mut Line) {
-    let Some((first, last)) = some_field(rng, line) else {
+fn refill_field(rng: &mut Rng, draft: &mut Draft, place: usize) {
+    let Some((first, last)) = some_field(rng, draft, place) else {
         return;
     };
     let width = last + 1 - first;
@@ -168,7 +191,7 @@ fn refill_field(rng: &mut Rng, line: &mut Line) {
         3 | 4 => random_digits(rng, width),
         _ => (0..width).map(|_| printable(rng)).collect(),
     };
-    line.put(first, &text);
+    draft.lines[place].put(first, &text);
 }
 
 /// One digit of the line up or down by one.
@@ -208,18 +231,20 @@ fn mutate_bytes(rng: &mut Rng, input: &mut Vec<u8>) {
 }
 
 /// A line as it comes by mistake: of another file, of another edition, padded otherwise, or none.
-fn odd_line(rng: &mut Rng) -> Vec<u8> {
+fn odd_line(edition: Edition, rng: &mut Rng) -> Vec<u8> {
     let any =
         |rng: &mut Rng, length: usize| -> Vec<u8> { (0..length).map(|_| printable(rng)).collect() };
     match rng.below(10) {
         0 => vec![b' '; LENGTH],
         1 => b"\xEF\xBB\xBF".to_vec(),
         2 => b"\x1A".to_vec(),
-        // The explanation of edition 2020.
+        // The explanation of edition 2020, without an account.
         3 => [&b"B2024012345678WHAMCORRECTED"[..], &[b' '; 248]].concat(),
         4 => {
             let mut line = any(rng, LENGTH);
-            line[0] = rng.pick(b"AESRTFaesrtf");
+            let letters = records(edition);
+            let small = letters.to_ascii_lowercase();
+            line[0] = rng.pick(&[letters, &small].concat());
             line
         }
         5 => any(rng, LENGTH),
@@ -236,9 +261,9 @@ fn odd_line(rng: &mut Rng) -> Vec<u8> {
 
 /// Files that are no mutation of a valid one: other files, records that are right but for one
 /// habit, and noise.
-pub fn strange(rng: &mut Rng) -> Case {
-    let mut draft = valid(rng, SMALL);
-    let odd = Line::new(odd_line(rng), LF);
+pub fn strange(edition: Edition, rng: &mut Rng) -> Case {
+    let mut draft = valid(edition, rng, SMALL);
+    let odd = Line::new(odd_line(edition, rng), LF);
     let name = match rng.below(9) {
         0 => {
             draft.lines.insert(0, odd);
@@ -255,7 +280,8 @@ pub fn strange(rng: &mut Rng) -> Case {
         }
         3 => {
             let lines = rng.between(1, 4);
-            draft.lines = (0..lines).map(|_| Line::new(odd_line(rng), LF)).collect();
+            let line = |_| Line::new(odd_line(edition, rng), LF);
+            draft.lines = (0..lines).map(line).collect();
             "odd lines alone"
         }
         _ => {

@@ -31,9 +31,11 @@ pub fn own_rules(edition: Edition, record: &Record, row: &Row) -> Finding {
         Class::Letter | Class::Ignored | Class::Any => Ok(()),
         Class::Number | Class::Money | Class::Year | Class::Date => digits(record, row),
         Class::Fein => fein(edition, record, row),
+        Class::Signed => signed(record, row),
         Class::Due => due(record, row),
         Class::Required => required(record, row),
         Class::Optional => left_justified(record, row),
+        Class::Explanation => explanation(record, row),
         Class::Licence => licence(record, row),
         Class::Account => account(edition, record, row),
         Class::Entity => refuse_if(!record.is(columns(row), b"WHAM"), 34, row),
@@ -57,31 +59,34 @@ fn digits(record: &Record, row: &Row) -> Finding {
 
 /// "number (30); begins with 69: 44, in 2020 only; nine zeros pass"
 fn fein(edition: Edition, record: &Record, row: &Row) -> Finding {
-    match edition {
-        Edition::Of2024 => digits(record, row),
-    }
+    digits(record, row)?;
+    let never_begins_so = match edition {
+        Edition::Of2024 => false,
+        Edition::Of2020 => record.is((row.first, row.first + 1), b"69"),
+    };
+    refuse_if(never_begins_so, 44, row)
 }
 
 /// "first column a digit or hyphen (hex 2D), every other column a digit, else 30 at the first that
-/// is not." Then 57 (1.8): "broken exactly if this line's 213-226 is all digits and the signed value
-/// of 123-136 isn't 213-226 minus 112-122."
-fn due(record: &Record, row: &Row) -> Finding {
+/// is not."
+fn signed(record: &Record, row: &Row) -> Finding {
+    let signs = usize::from(record.at(row.first) == b'-');
     let rest = Row {
-        first: row.first + 1,
+        first: row.first + signs,
         ..*row
     };
-    let negative = record.at(row.first) == b'-';
-    digits(record, if negative { &rest } else { row })?;
+    digits(record, &rest)
+}
+
+/// 57 (1.8): "broken exactly if this line's 213-226 is all digits and the signed value of 123-136
+/// isn't 213-226 minus 112-122."
+fn due(record: &Record, row: &Row) -> Finding {
+    signed(record, row)?;
+    let told = record.signed(columns(row)).expect("30 comes first");
     let value = |columns| record.number(columns).map(i128::from);
-    let told = value(columns(&rest)).expect("they are digits");
-    let told = match record.at(row.first) {
-        // "With the hyphen it reads as minus the rest; minus zero is zero"
-        b'-' => -told,
-        digit => i128::from(digit - b'0') * 10_i128.pow(13) + told,
-    };
     let payments = value(layout::PAYMENTS_IN_T).expect("30 comes first");
-    let correct = value(layout::CORRECT_IN_T);
-    refuse_if(correct.is_some_and(|sum| told != sum - payments), 57, row)
+    let total = value(layout::TOTAL_IN_T);
+    refuse_if(total.is_some_and(|total| told != total - payments), 57, row)
 }
 
 /// "all blank 32; first column blank otherwise 33"
@@ -96,6 +101,12 @@ fn left_justified(record: &Record, row: &Row) -> Finding {
     refuse_if(indented, 33, row)
 }
 
+/// "all blank 103; first column blank otherwise 33"
+fn explanation(record: &Record, row: &Row) -> Finding {
+    refuse_if(record.is_blank(columns(row)), 103, row)?;
+    left_justified(record, row)
+}
+
 /// "all blank 32 if this line's 209-217 isn't zero (passes if it is); first column blank otherwise
 /// 33"
 fn licence(record: &Record, row: &Row) -> Finding {
@@ -105,11 +116,14 @@ fn licence(record: &Record, row: &Row) -> Finding {
     left_justified(record, row)
 }
 
-/// "2024: as required."
+/// "2024: as required. 2020: all blank 32; any column blank otherwise 33"
 fn account(edition: Edition, record: &Record, row: &Row) -> Finding {
-    match edition {
-        Edition::Of2024 => required(record, row),
-    }
+    required(record, row)?;
+    let lacks_some = match edition {
+        Edition::Of2024 => false,
+        Edition::Of2020 => record.first_not(columns(row), |c| c != b' ').is_some(),
+    };
+    refuse_if(lacks_some, 33, row)
 }
 
 /// "number (30), then not 23: 35"
@@ -123,13 +137,16 @@ fn ends_quarter(record: &Record, row: &Row) -> bool {
     matches!(record.number(columns(row)), Some(3 | 6 | 9 | 12))
 }
 
-/// "number (30), 52": "S 2-10 begins with 9; 2020 also: .."
+/// "number (30), 52": "S 2-10 begins with 9; 2020 also: it is 111111111, 333333333 or 123456789."
 fn identity(edition: Edition, record: &Record, row: &Row) -> Finding {
     digits(record, row)?;
-    let forbidden = match edition {
-        Edition::Of2024 => record.at(row.first) == b'9',
+    let made_up = [b"111111111", b"333333333", b"123456789"];
+    let is_one_of_those = match edition {
+        Edition::Of2024 => false,
+        Edition::Of2020 => made_up.iter().any(|id| record.is(columns(row), *id)),
     };
-    refuse_if(forbidden, 52, row)
+    let begins_with_9 = record.at(row.first) == b'9';
+    refuse_if(begins_with_9 || is_one_of_those, 52, row)
 }
 
 fn region(record: &Record) -> Region {

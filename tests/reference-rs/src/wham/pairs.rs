@@ -5,7 +5,8 @@
 //! break their own rules are mended. The second is the same file with other people in it.
 
 use super::alike::{
-    broken, is_identity, is_name, is_permitted, is_record, AMOUNTS, IDENTITY, INITIAL, NAMES,
+    broken, is_identity, is_name, is_permitted, is_record, leaves_e_open, AMOUNTS, IDENTITY,
+    INITIAL, NAMES,
 };
 use super::breaks::{self, Break};
 use super::draft::MOST_OF_S;
@@ -27,7 +28,14 @@ use crate::rng::Rng;
 use crate::tables::Tables;
 
 /// What is counted of them.
-pub const WANTED: Wanted = Wanted {
+pub fn wanted(edition: Edition) -> &'static Wanted {
+    match edition {
+        Edition::Of2024 => &WANTED,
+        Edition::Of2020 => &WANTED_OF_2020,
+    }
+}
+
+static WANTED: Wanted = Wanted {
     length: LENGTH,
     fields: &[
         ("identity numbers", &[IDENTITY]),
@@ -37,6 +45,11 @@ pub const WANTED: Wanted = Wanted {
         ("correct amounts", &[AMOUNTS[1]]),
     ],
     numbers: 38,
+};
+
+static WANTED_OF_2020: Wanted = Wanted {
+    numbers: 44,
+    ..WANTED
 };
 
 const CROWDED: Size = Size {
@@ -51,6 +64,7 @@ const ROUND: u64 = 8;
 /// The cases that pairs begin with: those of `gen`, and among them crowded files. They do not end:
 /// there is no telling how many it takes for a pair.
 pub struct Firsts {
+    edition: Edition,
     seed: u64,
     next: u64,
     cases: Cases,
@@ -58,12 +72,13 @@ pub struct Firsts {
 }
 
 impl Firsts {
-    pub fn new(seed: u64, options: Options) -> Firsts {
+    pub fn new(edition: Edition, seed: u64, options: Options) -> Firsts {
         Firsts {
+            edition,
             seed,
             next: 0,
-            cases: Cases::new(seed, u64::MAX, options),
-            breaks: breaks::all(),
+            cases: Cases::new(edition, seed, u64::MAX, options),
+            breaks: breaks::all(edition),
         }
     }
 }
@@ -77,12 +92,13 @@ impl Iterator for Firsts {
         let mut rng = Rng::of(self.seed, 43, index);
         match index % ROUND {
             6 => {
-                let draft = valid(&mut rng, CROWDED);
+                let draft = valid(self.edition, &mut rng, CROWDED);
                 Some(Case::new("crowd", "", draft.input(), Meant::Accepted))
             }
             7 => {
                 let which = (index / ROUND) as usize % self.breaks.len();
-                Some(gen::broken("crowd", &mut rng, &self.breaks[which], CROWDED))
+                let one = &self.breaks[which];
+                Some(gen::broken(self.edition, "crowd", &mut rng, one, CROWDED))
             }
             _ => self.cases.next(),
         }
@@ -102,14 +118,14 @@ pub fn make(
     count: u64,
     options: Options,
 ) -> impl Iterator<Item = Pair> {
-    let firsts = Firsts::new(seed, options).enumerate();
+    let firsts = Firsts::new(edition, seed, options).enumerate();
     let of = move |(k, case)| pair_from(edition, &mut Rng::of(seed, 44, k as u64), case);
     firsts.filter_map(of).take(count as usize)
 }
 
 /// The pair whose first file is this case; none if it has no S record.
 fn pair_from(edition: Edition, rng: &mut Rng, case: Case) -> Option<Pair> {
-    let roster = Roster::of(&case.input);
+    let roster = Roster::of(edition, &case.input);
     if roster.is_empty() {
         return None;
     }
@@ -148,7 +164,7 @@ impl Twin for Pair {
         if self.one.input == self.other.input {
             return wrong("a pair of the same input twice");
         }
-        if !broken(&self.one.input, &self.other.input).is_empty() {
+        if !broken(self.edition, &self.one.input, &self.other.input).is_empty() {
             return wrong("a pair that is not alike");
         }
         if found[0] != found[1] {
@@ -178,6 +194,7 @@ pub fn is_same_under_short_lists(edition: Edition, cases: [&Case; 2]) -> bool {
 
 /// Where the S records of an input begin.
 struct Roster {
+    edition: Edition,
     /// Those under each E.
     teams: Vec<Vec<usize>>,
     /// Those under none.
@@ -185,7 +202,7 @@ struct Roster {
 }
 
 impl Roster {
-    fn of(input: &[u8]) -> Roster {
+    fn of(edition: Edition, input: &[u8]) -> Roster {
         let (mut teams, mut strays): (Vec<Vec<usize>>, Vec<usize>) = Default::default();
         let mut start = HEADER.min(input.len());
         let mut under_e = false;
@@ -195,13 +212,17 @@ impl Roster {
                     Some(team) if under_e => team.push(start),
                     _ => strays.push(start),
                 }
-            } else if !is_record(cut.text, b'R') {
+            } else if !leaves_e_open(edition, cut.text) {
                 under_e = is_record(cut.text, b'E');
                 teams.extend(under_e.then(Vec::new));
             }
             start += cut.taken();
         }
-        Roster { teams, strays }
+        Roster {
+            edition,
+            teams,
+            strays,
+        }
     }
 
     fn all(&self) -> impl Iterator<Item = usize> + '_ {
@@ -216,8 +237,8 @@ impl Roster {
     fn mend(&self, rng: &mut Rng, input: &mut [u8]) {
         for start in self.all() {
             let line = &mut input[start..start + LENGTH];
-            if !is_identity(columns(line, IDENTITY)) {
-                put_number(line, IDENTITY.0, IDENTITY.1, random_id(rng));
+            if !is_identity(self.edition, columns(line, IDENTITY)) {
+                put_number(line, IDENTITY.0, IDENTITY.1, random_id(self.edition, rng));
             }
             for (first, last) in NAMES {
                 if !is_name(columns(line, (first, last))) {
@@ -243,7 +264,7 @@ impl Roster {
         for start in self.all() {
             let line = &mut input[start..start + LENGTH];
             if !rng.one_in(4) {
-                put_number(line, IDENTITY.0, IDENTITY.1, random_id(rng));
+                put_number(line, IDENTITY.0, IDENTITY.1, random_id(self.edition, rng));
             }
             for (first, last) in NAMES {
                 if !rng.one_in(4) {
@@ -290,29 +311,33 @@ mod tests {
     };
 
     fn answers(pair: &Pair) -> [Outcome; 2] {
-        pair.cases()
-            .map(|case| Format::WHAM_2024.outcome(&case.input))
+        let format = pair.edition.format();
+        pair.cases().map(|case| format.outcome(&case.input))
     }
 
     #[test]
     fn pairs_are_alike_and_get_one_answer() {
-        let mut facts = Facts::of(&WANTED);
-        for pair in make(Edition::Of2024, 3, 3_000, SMALL) {
-            let found = answers(&pair);
-            assert_eq!(pair.check(&found), Ok(()));
-            facts.count(pair.cases(), &found[0]);
+        for edition in Edition::BOTH {
+            let mut facts = Facts::of(wanted(edition));
+            for pair in make(edition, 3, 3_000, SMALL) {
+                let found = answers(&pair);
+                assert_eq!(pair.check(&found), Ok(()));
+                facts.count(pair.cases(), &found[0]);
+            }
+            assert_eq!(facts.finish(), Ok(()));
         }
-        assert_eq!(facts.finish(), Ok(()));
     }
 
     #[test]
     fn pairs_are_the_same_again() {
-        let take = |count| -> Vec<(Vec<u8>, Vec<u8>, usize, usize)> {
-            let pairs = make(Edition::Of2024, 8, count, SMALL).take(50);
-            let told = |p: Pair| (p.one.input, p.other.input, p.one.piece, p.other.piece);
-            pairs.map(told).collect()
-        };
-        assert_eq!(take(50), take(3_000));
+        for edition in Edition::BOTH {
+            let take = |count| -> Vec<(Vec<u8>, Vec<u8>, usize, usize)> {
+                let pairs = make(edition, 8, count, SMALL).take(50);
+                let told = |p: Pair| (p.one.input, p.other.input, p.one.piece, p.other.piece);
+                pairs.map(told).collect()
+            };
+            assert_eq!(take(50), take(3_000));
+        }
     }
 
     #[test]

@@ -46,6 +46,15 @@ impl<'a> Record<'a> {
         })
     }
 
+    /// "With the hyphen it reads as minus the rest; minus zero is zero": none if another column than
+    /// the first holds no digit, or that neither a digit nor a hyphen.
+    pub fn signed(&self, (first, last): Columns) -> Option<i128> {
+        match self.at(first) {
+            b'-' => self.number((first + 1, last)).map(|rest| -i128::from(rest)),
+            _ => self.number((first, last)).map(i128::from),
+        }
+    }
+
     /// Text of eleven columns as the two numbers that a state has for it: "the first six of the
     /// account's eleven columns in capitals, as a number to the base 256, the first column the
     /// highest digit", and the last five likewise.

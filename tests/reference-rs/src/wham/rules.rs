@@ -19,6 +19,7 @@ struct Rule {
 }
 
 pub struct Rules {
+    edition: Edition,
     fields: Vec<Rule>,
 }
 
@@ -32,17 +33,17 @@ pub fn column_of_bad_length(text: &[u8]) -> Option<usize> {
 
 impl Rules {
     pub fn of(edition: Edition) -> Rules {
-        let mut rules = Rules { fields: Vec::new() };
-        match edition {
-            Edition::Of2024 => {
-                transmitter(&mut rules);
-                employer(&mut rules);
-                employee(&mut rules);
-                reconciliation(&mut rules);
-                totals(&mut rules);
-                final_record(&mut rules);
-            }
-        }
+        let mut rules = Rules {
+            edition,
+            fields: Vec::new(),
+        };
+        transmitter(&mut rules);
+        explanation(&mut rules);
+        employer(&mut rules);
+        employee(&mut rules);
+        reconciliation(&mut rules);
+        totals(&mut rules);
+        final_record(&mut rules);
         rules.fields.sort_by_key(|rule| (rule.letter, rule.field));
         rules
     }
@@ -64,7 +65,7 @@ impl Rules {
         if let Some(place) = line.text().iter().position(bad) {
             broken.push((3, place + 1));
         }
-        match place(line) {
+        match place(self.edition, line) {
             Some(number) => broken.push((number, 1)),
             None if is_one_too_many(line) => broken.push((61, 1)),
             None => {}
@@ -99,6 +100,40 @@ impl Rules {
         let is_digit = |c: u8| c.is_ascii_digit();
         let test = move |line: &View| (first..=last).find(|column| !is_digit(line.at(*column)));
         self.add(letter, first, 30, Box::new(test));
+    }
+
+    /// 30, and in 2020 44: "This number never begins with '69'".
+    fn fein(&mut self, letter: u8, first: usize) {
+        self.digits(letter, first, first + 8);
+        if self.edition == Edition::Of2020 {
+            let test = move |line: &View| {
+                let front = line.columns(first, first + 1);
+                (front == b"69").then_some(first)
+            };
+            self.add(letter, first, 44, Box::new(test));
+        }
+    }
+
+    /// 30 for what is no digit, but for a hyphen in the first column.
+    fn signed(&mut self, letter: u8, first: usize, last: usize) {
+        let test = move |line: &View| {
+            let has_hyphen = line.at(first) == b'-';
+            let mut digits = first + usize::from(has_hyphen)..=last;
+            digits.find(|column| !line.at(*column).is_ascii_digit())
+        };
+        self.add(letter, first, 30, Box::new(test));
+    }
+
+    /// 32 and 33, and in 2020 33 for a blank in any column.
+    fn account(&mut self, letter: u8, first: usize) {
+        self.required(letter, first, first + 10);
+        if self.edition == Edition::Of2020 {
+            let test = move |line: &View| {
+                let text = line.columns(first, first + 10);
+                text.contains(&b' ').then_some(first)
+            };
+            self.add(letter, first, 33, Box::new(test));
+        }
     }
 
     /// 33 for a blank in the first column and something after it.
@@ -187,28 +222,41 @@ fn says_1(e: &View) -> bool {
     e.at(190) == b'1'
 }
 
-/// 4, and 2.1 in words, by the last line that is neither S nor R.
-fn place(line: &View) -> Option<u8> {
+/// 4, and 2.1 to 2.3 in words, by the last line that is neither S, R nor B.
+fn place(edition: Edition, line: &View) -> Option<u8> {
     let letter = line.letter();
-    if !b"AESRTF".contains(&letter) {
+    let known: &[u8] = match edition {
+        Edition::Of2024 => b"AESRTF",
+        Edition::Of2020 => b"ABESRTF",
+    };
+    if !known.contains(&letter) {
         return Some(4);
     }
     let Some(head) = line.head() else {
         return (letter != b'A').then_some(10);
     };
+    // "2020: Every E record must have one associated T record"
+    let needs_t = |e: &View| says_1(e) || edition == Edition::Of2020;
+    let has_b = line.before().b_of_return > 0;
     match (letter, head.letter()) {
         (b'A', _) => Some(11),
         (b'F', b'F') => Some(19),
+        (b'B', b'F') => Some(100),
         (_, b'F') => Some(20),
+        // "B may stand before its E or under it, and more than once."
+        (b'B', _) => None,
         // "R is in place exactly while an E is open, whatever the E says"; else it is as an S.
         (b'R', b'E') => None,
         (b'S', b'E') => (!says_1(&head)).then_some(16),
         (b'S' | b'R', _) => Some(12),
-        (b'E', b'E') => says_1(&head).then_some(15),
-        (b'F', b'E') => says_1(&head).then_some(17),
+        (b'E', b'E') => needs_t(&head).then_some(15),
+        (b'F', b'E') => needs_t(&head).then_some(17),
         (b'T', b'A') => Some(13),
         (b'F', b'A') => Some(14),
         (b'T', b'T') => Some(18),
+        // "at T, the return has no B"; "at F, a B stands after the last T and so belongs to no return"
+        (b'T', b'E') => (edition == Edition::Of2020 && !has_b).then_some(100),
+        (b'F', b'T') => has_b.then_some(100),
         _ => None,
     }
 }
@@ -219,6 +267,7 @@ fn is_one_too_many(line: &View) -> bool {
     match line.letter() {
         b'S' => before.s >= 100_000,
         b'R' => before.r >= 100_000,
+        b'B' => before.b >= 100_000,
         _ => false,
     }
 }
@@ -250,7 +299,7 @@ fn transmitter(rules: &mut Rules) {
         let latest = u128::from(line.sheet.held.year);
         line.value(2, 5).is_some_and(|year| year > latest)
     });
-    rules.digits(b'A', 6, 14);
+    rules.fein(b'A', 6);
     rules.entity(b'A', 15);
     rules.required(b'A', 24, 73);
     rules.required(b'A', 74, 113);
@@ -261,12 +310,54 @@ fn transmitter(rules: &mut Rules) {
     rules.left_justified(b'A', 204, 207);
 }
 
+/// The FEIN and the account of a B or E record.
+fn fein_and_account(line: &View) -> (Option<u128>, Vec<u8>) {
+    let account = match line.letter() {
+        b'B' => line.columns(265, 275),
+        _ => line.columns(258, 268),
+    };
+    (line.value(6, 14), account)
+}
+
+/// "isn't that of the B or E lines of the same return before it": of the first of them, since each
+/// other was compared with it.
+fn other_fein_in_return(line: &View) -> bool {
+    let first = line.first_of_return();
+    first.is_some_and(|first| differs(line.value(6, 14), fein_and_account(&first).0))
+}
+
+fn other_account_in_return(line: &View) -> bool {
+    let first = line.first_of_return();
+    first.is_some_and(|first| fein_and_account(line).1 != fein_and_account(&first).1)
+}
+
+/// B is a record of 2020 alone: in 2024 no line of this letter comes so far.
+fn explanation(rules: &mut Rules) {
+    rules.digits(b'B', 2, 5);
+    rules.when(b'B', 2, 101, |line| {
+        differs(line.value(2, 5), year_of_a(line))
+    });
+    rules.fein(b'B', 6);
+    rules.when(b'B', 6, 102, other_fein_in_return);
+    rules.entity(b'B', 15);
+    rules.when(b'B', 19, 103, |line| {
+        line.columns(19, 264).iter().all(|c| *c == b' ')
+    });
+    rules.left_justified(b'B', 19, 264);
+    rules.digits(b'B', 265, 275);
+    rules.when(b'B', 265, 104, other_account_in_return);
+}
+
 fn employer(rules: &mut Rules) {
+    let is_2020 = rules.edition == Edition::Of2020;
     rules.digits(b'E', 2, 5);
     rules.when(b'E', 2, 42, |line| {
         differs(line.value(2, 5), year_of_a(line))
     });
-    rules.digits(b'E', 6, 14);
+    rules.fein(b'E', 6);
+    if is_2020 {
+        rules.when(b'E', 6, 102, other_fein_in_return);
+    }
     rules.when(b'E', 6, 63, |line| {
         let entries = line.sheet.room.min(65_536);
         line.before().e >= entries as u64
@@ -290,18 +381,27 @@ fn employer(rules: &mut Rules) {
     rules.when(b'E', 190, 47, |line| {
         line.at(190) != b'0' && line.at(190) != b'1'
     });
-    rules.digits(b'E', 209, 217);
+    rules.fein(b'E', 209);
     rules.when(b'E', 218, 32, |line| {
         line.value(209, 217) != Some(0) && line.columns(218, 224) == b"       "
     });
     rules.left_justified(b'E', 218, 224);
     rules.digits(b'E', 225, 228);
-    rules.required(b'E', 258, 268);
+    rules.account(b'E', 258);
+    if is_2020 {
+        rules.when(b'E', 258, 104, other_account_in_return);
+    }
 }
 
 fn employee(rules: &mut Rules) {
     rules.digits(b'S', 2, 10);
     rules.when(b'S', 2, 52, |line| line.at(2) == b'9');
+    if rules.edition == Edition::Of2020 {
+        rules.when(b'S', 2, 52, |line| {
+            let id = line.columns(2, 10);
+            id == b"111111111" || id == b"333333333" || id == b"123456789"
+        });
+    }
     rules.required(b'S', 11, 30);
     rules.required(b'S', 31, 42);
     rules.maine(b'S', 44);
@@ -316,7 +416,7 @@ fn employee(rules: &mut Rules) {
     rules.entity(b'S', 143);
     rules.digits(b'S', 191, 202);
     rules.digits(b'S', 203, 214);
-    rules.required(b'S', 215, 225);
+    rules.account(b'S', 215);
     rules.when(b'S', 215, 46, |line| {
         let of_e = line.head().map(|e| e.columns(258, 268));
         of_e != Some(line.columns(215, 225))
@@ -338,12 +438,12 @@ fn reconciliation(rules: &mut Rules) {
     rules.digits(b'R', 19, 27);
 }
 
-/// T 123-136: the amount, if it is one.
-fn signed(line: &View) -> Option<i128> {
-    let amount = |first| line.value(first, 136).map(|value| value as i128);
-    match line.at(123) {
-        b'-' => amount(124).map(|value| -value),
-        _ => amount(123),
+/// An amount with a hyphen in front or none, if it is one.
+fn signed(line: &View, first: usize, last: usize) -> Option<i128> {
+    let amount = |first| line.value(first, last).map(|value| value as i128);
+    match line.at(first) {
+        b'-' => amount(first + 1).map(|value| -value),
+        _ => amount(first),
     }
 }
 
@@ -357,26 +457,34 @@ fn totals(rules: &mut Rules) {
     });
     rules.entity(b'T', 9);
     rules.digits(b'T', 112, 122);
-    let unfit_sign = |line: &View| {
-        let has_hyphen = line.at(123) == b'-';
-        (123 + usize::from(has_hyphen)..=136).find(|column| !line.at(*column).is_ascii_digit())
-    };
-    rules.add(b'T', 123, 30, Box::new(unfit_sign));
+    rules.signed(b'T', 123, 136);
     rules.when(b'T', 123, 57, |line| {
         let amounts = line.value(213, 226).zip(line.value(112, 122));
         let wanted = amounts.map(|(total, payments)| total as i128 - payments as i128);
         wanted
-            .zip(signed(line))
+            .zip(signed(line, 123, 136))
             .is_some_and(|(wanted, told)| wanted != told)
     });
-    rules.digits(b'T', 175, 188);
-    rules.when(b'T', 175, 57, |line| {
-        differs(line.value(175, 188), Some(line.under_e().1))
-    });
-    rules.digits(b'T', 213, 226);
-    rules.when(b'T', 213, 57, |line| {
-        differs(line.value(213, 226), Some(line.under_e().2))
-    });
+    match rules.edition {
+        Edition::Of2024 => {
+            rules.digits(b'T', 175, 188);
+            rules.when(b'T', 175, 57, |line| {
+                differs(line.value(175, 188), Some(line.under_e().1))
+            });
+            rules.digits(b'T', 213, 226);
+            rules.when(b'T', 213, 57, |line| {
+                differs(line.value(213, 226), Some(line.under_e().2))
+            });
+        }
+        Edition::Of2020 => {
+            rules.signed(b'T', 175, 188);
+            rules.when(b'T', 175, 57, |line| {
+                let told = signed(line, 175, 188);
+                told.is_some_and(|told| told != line.under_e().2 as i128)
+            });
+            rules.digits(b'T', 213, 226);
+        }
+    }
 }
 
 fn final_record(rules: &mut Rules) {

@@ -11,6 +11,7 @@ mod lengths;
 pub mod lines;
 pub mod moments;
 pub mod near;
+mod notes;
 mod totals;
 mod unfit;
 mod words;
@@ -18,9 +19,9 @@ mod writing;
 
 use super::layout::LENGTH;
 use super::write::Given;
+use super::Edition;
 use crate::calendar::Quarter;
 use crate::edits::Phase;
-use crate::format::Format;
 use crate::rng::Rng;
 use crate::scripts::{Scene, Script};
 use crate::walk::{Standing, State};
@@ -31,35 +32,39 @@ use moments::Moment;
 pub const PROMISED: [u8; 9] = [71, 72, 73, 80, 81, 82, 83, 87, 88];
 
 /// A script of so many calls of the walk or a few more, and the others among them.
-pub fn make(seed: u64, calls: u64) -> Script {
+pub fn make(edition: Edition, seed: u64, calls: u64) -> Script {
     let mut script = Script::new();
-    script.fill(seed, calls, fixed_scenes(), chance::scene);
+    let by_chance = |rng: &mut Rng, script: &mut Script| chance::scene(edition, rng, script);
+    script.fill(seed, calls, fixed_scenes(edition), by_chance);
     script
 }
 
-fn fixed_scenes() -> Vec<Scene> {
+fn fixed_scenes(edition: Edition) -> Vec<Scene> {
     let mut scenes = Vec::new();
-    unfit::add(&mut scenes);
-    words::add(&mut scenes);
-    totals::add(&mut scenes);
-    writing::add(&mut scenes);
-    handed_on::add(&mut scenes);
-    lengths::add(&mut scenes);
-    afterwards::add(&mut scenes);
-    formats::add(&mut scenes);
-    frames::add(&mut scenes);
-    broken::add(&mut scenes);
+    unfit::add(edition, &mut scenes);
+    words::add(edition, &mut scenes);
+    totals::add(edition, &mut scenes);
+    writing::add(edition, &mut scenes);
+    handed_on::add(edition, &mut scenes);
+    lengths::add(edition, &mut scenes);
+    afterwards::add(edition, &mut scenes);
+    formats::add(edition, &mut scenes);
+    frames::add(edition, &mut scenes);
+    broken::add(edition, &mut scenes);
+    if edition.has_b() {
+        notes::add(&mut scenes);
+    }
     scenes
 }
 
 // Calls that many scenes make.
 
-fn open(script: &mut Script, held: Quarter) {
-    script.open_as(Format::WHAM_2024.word(), held);
+fn open(edition: Edition, script: &mut Script, held: Quarter) {
+    script.open_as(edition.format().word(), held);
 }
 
-fn whole(script: &mut Script, held: Quarter, file: &[u8]) {
-    script.whole_as(Format::WHAM_2024.word(), held, file);
+fn whole(edition: Edition, script: &mut Script, held: Quarter, file: &[u8]) {
+    script.whole_as(edition.format().word(), held, file);
 }
 
 /// A record with its end.
@@ -74,11 +79,11 @@ fn write(script: &mut Script, record: Written, payments: u64) {
 }
 
 /// A line call and an end call, each in the same walk.
-fn line_then_end(rng: &mut Rng, script: &mut Script, moment: &Moment) {
+fn line_then_end(edition: Edition, rng: &mut Rng, script: &mut Script, moment: &Moment) {
     script.set(moment);
     let line = match rng.one_in(4) {
         true => lines::short(rng).to_vec(),
-        false => lines::fitting(rng, &moment.state),
+        false => lines::fitting(edition, rng, &moment.state),
     };
     script.line(&line);
     script.set(moment);
@@ -106,7 +111,7 @@ fn record_for(rng: &mut Rng, state: &State) -> Written {
 
 /// A writing call, mostly of the record that may be written now, into a slice of its length and with
 /// payments that it can hold; at times the one of PFML.
-fn some_writing(rng: &mut Rng, script: &mut Script) {
+fn some_writing(edition: Edition, rng: &mut Rng, script: &mut Script) {
     let (fitting, any) = (record_for(rng, &script.state()), rng.pick(&Written::BOTH));
     let record = if rng.one_in(6) { any } else { fitting };
     let other_length = rng.pick(&[0, 1, 274, 276, 290, 300]);
@@ -117,14 +122,11 @@ fn some_writing(rng: &mut Rng, script: &mut Script) {
     let sum = script.state().open.cents;
     let any = rng.next() >> rng.below(64);
     let payments = rng.pick(&[0, sum, sum ^ 1, 99_999_999_999, 100_000_000_000, any]);
-    script.write_wham(
-        record,
-        length,
-        Given {
-            payments,
-            total: any,
-        },
-    );
+    let total = match edition {
+        Edition::Of2024 => any,
+        Edition::Of2020 => rng.pick(&[any, 0, payments, payments ^ 1, sum]),
+    };
+    script.write_wham(record, length, Given { payments, total });
 }
 
 /// Frames, mostly into a buffer that is large enough for those of a walk that has ended.
@@ -155,21 +157,35 @@ mod tests {
     #[test]
     fn scripts_of_9000_calls() {
         for seed in 1..=4 {
-            let script = make(seed, 9_000);
-            assert!(script.text.len() <= LONGEST, "{}", script.text.len());
-            assert_eq!(script.fixed_scenes_left, 0);
-            assert_eq!(script.numbers.check(PROMISED), Ok(()));
-            // Every number that a file gets comes too.
-            let missing: Vec<u8> = answers()
-                .filter(|number| script.numbers.times(*number) == 0)
-                .collect();
-            assert_eq!(missing, []);
+            assert_script(Edition::Of2024, seed, 9_000);
         }
+    }
+
+    /// It has more phases, one more record, and the numbers of these.
+    #[test]
+    fn scripts_of_13000_calls() {
+        for seed in 1..=4 {
+            assert_script(Edition::Of2020, seed, 13_000);
+        }
+    }
+
+    fn assert_script(edition: Edition, seed: u64, calls: u64) {
+        let script = make(edition, seed, calls);
+        assert!(script.text.len() <= LONGEST, "{}", script.text.len());
+        assert_eq!(script.fixed_scenes_left, 0);
+        assert_eq!(script.numbers.check(PROMISED), Ok(()));
+        // Every number that a file gets comes too.
+        let missing: Vec<u8> = answers(edition)
+            .filter(|number| script.numbers.times(*number) == 0)
+            .collect();
+        assert_eq!(missing, []);
     }
 
     #[test]
     fn what_is_told_is_told_of_the_text() {
-        let script = make(7, 1_000);
-        assert_eq!(run_script(&script.text), Ok(script.told));
+        for edition in Edition::BOTH {
+            let script = make(edition, 7, 1_000);
+            assert_eq!(run_script(&script.text), Ok(script.told));
+        }
     }
 }

@@ -3,8 +3,10 @@
 //!
 //! The words of the state have these meanings here: `quarter_of_a` is A's year and the month of the
 //! file's first E; `cents` are those of S 203-214, `second` those of S 191-202; `more.others` of the
-//! file are its R records. Ids in use, other records, the nearest number and the note of an open E,
-//! and the file's notes, are used by nothing.
+//! file are its R records. Ids in use, other records and the nearest number of an open E are used by
+//! nothing. In 2020 the open E's words are those of the present return: `noted` says that it has a B,
+//! and with no E open FEIN and account are those of its first B; `more.notes` of the file are its B
+//! records. In 2024 these two are used by nothing.
 //!
 //! The id table is lent in every call: "opening and every refusal that zeroes the list zero it, ..
 //! its length is compared with nothing". No walk has ids in use; of a state that was altered to have
@@ -24,10 +26,11 @@ use crate::walk::{Answer, LineAnswer, MoreOfE, OpenE, Standing, State};
 /// The most that the twelve columns of an amount hold.
 pub const MOST_OF_AMOUNT: u64 = 999_999_999_999;
 
-/// "lines read exceed 331,074 (edition 2024)"
+/// "lines read exceed 331,074 (edition 2024) or 431,074 (edition 2020)"
 pub fn most_lines(edition: Edition) -> u64 {
     match edition {
         Edition::Of2024 => 331_074,
+        Edition::Of2020 => 431_074,
     }
 }
 
@@ -100,7 +103,7 @@ fn read(
         let refusal = Refusal::new(broken.number, state.lines_read + 1, broken.column);
         return (0, Some(refuse(state, ids, list, refusal)));
     }
-    take(state, phase, ids, list, &Record::new(cut.text));
+    take(edition, state, phase, ids, list, &Record::new(cut.text));
     (cut.taken(), None)
 }
 
@@ -206,14 +209,13 @@ fn exceeds(sum: u64, s: u64) -> bool {
     u128::from(sum) > u128::from(s) * u128::from(MOST_OF_AMOUNT)
 }
 
-/// Point 7.
+/// Point 7: "in 2020 also 100 to 104 and in 2024 not 44".
 pub fn is_left_by_a_refusal(edition: Edition, number: u8) -> bool {
-    match edition {
-        Edition::Of2024 => matches!(
-            number,
-            1..=8 | 10..=20 | 30 | 32..=37 | 39..=43 | 46 | 47 | 52 | 55..=61 | 63 | 70 | 91
-        ),
-    }
+    let in_both = matches!(
+        number,
+        1..=8 | 10..=20 | 30 | 32..=37 | 39..=43 | 46 | 47 | 52 | 55..=61 | 63 | 70 | 91
+    );
+    in_both || (edition == Edition::Of2020 && matches!(number, 44 | 100..=104))
 }
 
 /// Point 8: "the held quarter is none that opening allows; in phase after A, A's year is above the
@@ -230,11 +232,19 @@ fn unfit_quarters(state: &State, standing: Standing) -> bool {
 }
 
 /// What an accepted line changes (4, the second table).
-fn take(state: &mut State, phase: Phase, ids: &mut [u32], list: &mut [Entry], record: &Record) {
+fn take(
+    edition: Edition,
+    state: &mut State,
+    phase: Phase,
+    ids: &mut [u32],
+    list: &mut [Entry],
+    record: &Record,
+) {
     state.lines_read += 1;
     match record.letter() {
         b'A' => take_a(state, record),
-        b'E' => take_e(state, phase, list, record),
+        b'B' => take_b(state, phase, record),
+        b'E' => take_e(edition, state, phase, list, record),
         b'S' => take_s(state, record),
         b'R' => state.more.others += 1,
         b'T' => take_t(state, ids, list),
@@ -258,19 +268,33 @@ fn take_a(state: &mut State, record: &Record) {
     state.quarter_of_a = Quarter::new(number(record, layout::YEAR_IN_A), 0);
 }
 
-/// "a new entry FEIN, 0, 0"; of its six numbers "the last three zero here".
-fn take_e(state: &mut State, phase: Phase, list: &mut [Entry], record: &Record) {
+/// "B count + 1; has a B; if no E is open and it is the return's first B, FEIN and account". 61 comes
+/// before, so the count does not wrap.
+fn take_b(state: &mut State, phase: Phase, record: &Record) {
+    state.more.notes += 1;
+    if phase != Phase::EOpen && !state.open.more.noted {
+        state.open.fein = number(record, layout::FEIN_IN_B);
+        state.open.more.account = record.account(layout::ACCOUNT_IN_B);
+    }
+    state.open.more.noted = true;
+}
+
+/// "a new entry FEIN, 0, 0"; of its six numbers "the last three zero here". "'Has a B' stays as it
+/// was (2024: always no)".
+fn take_e(edition: Edition, state: &mut State, phase: Phase, list: &mut [Entry], record: &Record) {
     let fein = number(record, layout::FEIN_IN_E);
     list[state.employers as usize] = Entry::plain(fein, 0, 0);
     state.employers += 1;
     if phase == Phase::AfterA {
         state.quarter_of_a.month = number(record, layout::MONTH_IN_E);
     }
-    leave(state, Phase::EOpen);
+    let noted = edition.has_b() && state.open.more.noted;
+    state.standing = Standing::Among(Phase::EOpen);
     state.open = OpenE {
         fein,
         says_s_follow: record.at(layout::S_FOLLOW_IN_E) == b'1',
         more: MoreOfE {
+            noted,
             account: record.account(layout::ACCOUNT_IN_E),
             ..MoreOfE::default()
         },

@@ -87,12 +87,32 @@ pub returns-in-20 : goal.returns-in-20
 unfolding rule_of rule_list
 returns-in-20 c = rw c.in-20.is
 
+pub returns-in-21 : goal.returns-in-21
+unfolding rule_of rule_list
+returns-in-21 c = rw c.in-21.is
+
+pub returns-in-22 : goal.returns-in-22
+unfolding rule_of rule_list
+returns-in-22 c = rw c.in-22.is
+
+pub returns-in-23 : goal.returns-in-23
+unfolding rule_of rule_list
+returns-in-23 c = rw c.in-23.is
+
+pub returns-in-24 : goal.returns-in-24
+unfolding rule_of rule_list
+returns-in-24 c = rw c.in-24.is
+
+pub returns-in-25 : goal.returns-in-25
+unfolding rule_of rule_list
+returns-in-25 c = rw c.in-25.is
+
 -- A number that is none of those up to k is above k.
 up : (n k : ℕ) → (n ≡ k → ⊥) → k ≤ n → k + 1 ≤ n
 up n k other h = omega arith
 
 -- 0 is the first of the list, and past its end there is no rule.
-rest : (n : ℕ) → (1 ≤ n → 21 ≤ n) → Nothing ≡ rule_of n
+rest : (n : ℕ) → (1 ≤ n → 26 ≤ n) → Nothing ≡ rule_of n
 unfolding rule_of rule_list
 rest zero past = refl
 rest (suc n) past = sym (get_or-eq_default rule_list Nothing (past (omega arith)))
@@ -101,4 +121,4 @@ pub returns-in_default : goal.returns-in_default
 returns-in_default c =
     let r = c.in_default.in_default-own.rest in
     let n = c.args.number in
-    rest n (λ h. up n 20 r.1 (up n 19 r.0.1 (up n 18 r.0.0.1 (up n 17 r.0.0.0.1 (up n 16 r.0.0.0.0.1 (up n 15 r.0.0.0.0.0.1 (up n 14 r.0.0.0.0.0.0.1 (up n 13 r.0.0.0.0.0.0.0.1 (up n 12 r.0.0.0.0.0.0.0.0.1 (up n 11 r.0.0.0.0.0.0.0.0.0.1 (up n 10 r.0.0.0.0.0.0.0.0.0.0.1 (up n 9 r.0.0.0.0.0.0.0.0.0.0.0.1 (up n 8 r.0.0.0.0.0.0.0.0.0.0.0.0.1 (up n 7 r.0.0.0.0.0.0.0.0.0.0.0.0.0.1 (up n 6 r.0.0.0.0.0.0.0.0.0.0.0.0.0.0.1 (up n 5 r.0.0.0.0.0.0.0.0.0.0.0.0.0.0.0.1 (up n 4 r.0.0.0.0.0.0.0.0.0.0.0.0.0.0.0.0.1 (up n 3 r.0.0.0.0.0.0.0.0.0.0.0.0.0.0.0.0.0.1 (up n 2 r.0.0.0.0.0.0.0.0.0.0.0.0.0.0.0.0.0.0.1 (up n 1 r.0.0.0.0.0.0.0.0.0.0.0.0.0.0.0.0.0.0.0.1 h))))))))))))))))))))
+    rest n (λ h. up n 25 r.1 (up n 24 r.0.1 (up n 23 r.0.0.1 (up n 22 r.0.0.0.1 (up n 21 r.0.0.0.0.1 (up n 20 r.0.0.0.0.0.1 (up n 19 r.0.0.0.0.0.0.1 (up n 18 r.0.0.0.0.0.0.0.1 (up n 17 r.0.0.0.0.0.0.0.0.1 (up n 16 r.0.0.0.0.0.0.0.0.0.1 (up n 15 r.0.0.0.0.0.0.0.0.0.0.1 (up n 14 r.0.0.0.0.0.0.0.0.0.0.0.1 (up n 13 r.0.0.0.0.0.0.0.0.0.0.0.0.1 (up n 12 r.0.0.0.0.0.0.0.0.0.0.0.0.0.1 (up n 11 r.0.0.0.0.0.0.0.0.0.0.0.0.0.0.1 (up n 10 r.0.0.0.0.0.0.0.0.0.0.0.0.0.0.0.1 (up n 9 r.0.0.0.0.0.0.0.0.0.0.0.0.0.0.0.0.1 (up n 8 r.0.0.0.0.0.0.0.0.0.0.0.0.0.0.0.0.0.1 (up n 7 r.0.0.0.0.0.0.0.0.0.0.0.0.0.0.0.0.0.0.1 (up n 6 r.0.0.0.0.0.0.0.0.0.0.0.0.0.0.0.0.0.0.0.1 (up n 5 r.0.0.0.0.0.0.0.0.0.0.0.0.0.0.0.0.0.0.0.0.1 (up n 4 r.0.0.0.0.0.0.0.0.0.0.0.0.0.0.0.0.0.0.0.0.0.1 (up n 3 r.0.0.0.0.0.0.0.0.0.0.0.0.0.0.0.0.0.0.0.0.0.0.1 (up n 2 r.0.0.0.0.0.0.0.0.0.0.0.0.0.0.0.0.0.0.0.0.0.0.0.1 (up n 1 r.0.0.0.0.0.0.0.0.0.0.0.0.0.0.0.0.0.0.0.0.0.0.0.0.1 h)))))))))))))))))))))))))

@@ -99,6 +99,26 @@ pub returns-in-22 : goal.returns-in-22
 unfolding class_of classes
 returns-in-22 c = rw c.in-22.is
 
+pub returns-in-23 : goal.returns-in-23
+unfolding class_of classes
+returns-in-23 c = rw c.in-23.is
+
+pub returns-in-24 : goal.returns-in-24
+unfolding class_of classes
+returns-in-24 c = rw c.in-24.is
+
+pub returns-in-25 : goal.returns-in-25
+unfolding class_of classes
+returns-in-25 c = rw c.in-25.is
+
+pub returns-in-26 : goal.returns-in-26
+unfolding class_of classes
+returns-in-26 c = rw c.in-26.is
+
+pub returns-in-27 : goal.returns-in-27
+unfolding class_of classes
+returns-in-27 c = rw c.in-27.is
+
 -- A number that is none of those up to k is above k.
 up : (n k : ℕ) → (n ≡ k → ⊥) → k ≤ n → k + 1 ≤ n
 up n k other h = omega arith
@@ -108,5 +128,5 @@ unfolding class_of classes
 returns-in_default c =
     let r = c.in_default.in_default-own.rest in
     let n = c.args.number in
-    let past : 23 ≤ n = (up n 22 r.1 (up n 21 r.0.1 (up n 20 r.0.0.1 (up n 19 r.0.0.0.1 (up n 18 r.0.0.0.0.1 (up n 17 r.0.0.0.0.0.1 (up n 16 r.0.0.0.0.0.0.1 (up n 15 r.0.0.0.0.0.0.0.1 (up n 14 r.0.0.0.0.0.0.0.0.1 (up n 13 r.0.0.0.0.0.0.0.0.0.1 (up n 12 r.0.0.0.0.0.0.0.0.0.0.1 (up n 11 r.0.0.0.0.0.0.0.0.0.0.0.1 (up n 10 r.0.0.0.0.0.0.0.0.0.0.0.0.1 (up n 9 r.0.0.0.0.0.0.0.0.0.0.0.0.0.1 (up n 8 r.0.0.0.0.0.0.0.0.0.0.0.0.0.0.1 (up n 7 r.0.0.0.0.0.0.0.0.0.0.0.0.0.0.0.1 (up n 6 r.0.0.0.0.0.0.0.0.0.0.0.0.0.0.0.0.1 (up n 5 r.0.0.0.0.0.0.0.0.0.0.0.0.0.0.0.0.0.1 (up n 4 r.0.0.0.0.0.0.0.0.0.0.0.0.0.0.0.0.0.0.1 (up n 3 r.0.0.0.0.0.0.0.0.0.0.0.0.0.0.0.0.0.0.0.1 (up n 2 r.0.0.0.0.0.0.0.0.0.0.0.0.0.0.0.0.0.0.0.0.1 (up n 1 r.0.0.0.0.0.0.0.0.0.0.0.0.0.0.0.0.0.0.0.0.0.1 (up n 0 r.0.0.0.0.0.0.0.0.0.0.0.0.0.0.0.0.0.0.0.0.0.0.1 zero-le))))))))))))))))))))))) in
+    let past : 28 ≤ n = (up n 27 r.1 (up n 26 r.0.1 (up n 25 r.0.0.1 (up n 24 r.0.0.0.1 (up n 23 r.0.0.0.0.1 (up n 22 r.0.0.0.0.0.1 (up n 21 r.0.0.0.0.0.0.1 (up n 20 r.0.0.0.0.0.0.0.1 (up n 19 r.0.0.0.0.0.0.0.0.1 (up n 18 r.0.0.0.0.0.0.0.0.0.1 (up n 17 r.0.0.0.0.0.0.0.0.0.0.1 (up n 16 r.0.0.0.0.0.0.0.0.0.0.0.1 (up n 15 r.0.0.0.0.0.0.0.0.0.0.0.0.1 (up n 14 r.0.0.0.0.0.0.0.0.0.0.0.0.0.1 (up n 13 r.0.0.0.0.0.0.0.0.0.0.0.0.0.0.1 (up n 12 r.0.0.0.0.0.0.0.0.0.0.0.0.0.0.0.1 (up n 11 r.0.0.0.0.0.0.0.0.0.0.0.0.0.0.0.0.1 (up n 10 r.0.0.0.0.0.0.0.0.0.0.0.0.0.0.0.0.0.1 (up n 9 r.0.0.0.0.0.0.0.0.0.0.0.0.0.0.0.0.0.0.1 (up n 8 r.0.0.0.0.0.0.0.0.0.0.0.0.0.0.0.0.0.0.0.1 (up n 7 r.0.0.0.0.0.0.0.0.0.0.0.0.0.0.0.0.0.0.0.0.1 (up n 6 r.0.0.0.0.0.0.0.0.0.0.0.0.0.0.0.0.0.0.0.0.0.1 (up n 5 r.0.0.0.0.0.0.0.0.0.0.0.0.0.0.0.0.0.0.0.0.0.0.1 (up n 4 r.0.0.0.0.0.0.0.0.0.0.0.0.0.0.0.0.0.0.0.0.0.0.0.1 (up n 3 r.0.0.0.0.0.0.0.0.0.0.0.0.0.0.0.0.0.0.0.0.0.0.0.0.1 (up n 2 r.0.0.0.0.0.0.0.0.0.0.0.0.0.0.0.0.0.0.0.0.0.0.0.0.0.1 (up n 1 r.0.0.0.0.0.0.0.0.0.0.0.0.0.0.0.0.0.0.0.0.0.0.0.0.0.0.1 (up n 0 r.0.0.0.0.0.0.0.0.0.0.0.0.0.0.0.0.0.0.0.0.0.0.0.0.0.0.0.1 zero-le)))))))))))))))))))))))))))) in
     sym (get_or-eq_default classes Ignored past)

@@ -26,7 +26,12 @@ pub returns-in-70 : goal.returns-in-70
 unfolding kind_of
 returns-in-70 c = rw c.in-70.is
 
+pub returns-in-66 : goal.returns-in-66
+unfolding kind_of
+returns-in-66 c = rw c.in-66.is c.kind_of_b.ensures
+
 pub returns-in_default : goal.returns-in_default
 unfolding kind_of
-returns-in_default c = let r = c.in_default.in_default-own.rest in
-    rw (ne_eqb _ 65 r.0.0.0.0.0.1, ne_eqb _ 69 r.0.0.0.0.1, ne_eqb _ 83 r.0.0.0.1, ne_eqb _ 82 r.0.0.1, ne_eqb _ 84 r.0.1, ne_eqb _ 70 r.1)
+returns-in_default c =
+    let r = c.in_default.in_default-own.rest in
+    rw (ne_eqb _ 65 r.0.0.0.0.0.0.1, ne_eqb _ 69 r.0.0.0.0.0.1, ne_eqb _ 83 r.0.0.0.0.1, ne_eqb _ 82 r.0.0.0.1, ne_eqb _ 84 r.0.0.1, ne_eqb _ 70 r.0.1, ne_eqb _ 66 r.1)

@@ -12,6 +12,9 @@ returns-in-Employee c = rw c.in-Employee.is
 pub returns-in-Deposit : goal.returns-in-Deposit
 returns-in-Deposit c = rw c.in-Deposit.is
 
+pub returns-in-Explanation : goal.returns-in-Explanation
+returns-in-Explanation c = rw c.in-Explanation.is
+
 pub returns-in-Total : goal.returns-in-Total
 returns-in-Total c = rw c.in-Total.is
 

@@ -12,11 +12,14 @@ returns-in-Employee c = rw c.in-Employee.is
 pub returns-in-Deposit : goal.returns-in-Deposit
 returns-in-Deposit c = rw c.in-Deposit.is
 
+pub returns-in-Explanation : goal.returns-in-Explanation
+returns-in-Explanation c = rw c.in-Explanation.is
+
 pub returns-in-Total : goal.returns-in-Total
 returns-in-Total c = rw c.in-Total.is
 
 pub returns-in-Final : goal.returns-in-Final
-returns-in-Final c = rw c.in-Final.is
+returns-in-Final c = rw c.in-Final.is c.unless.ensures
 
 pub returns-in-Unknown : goal.returns-in-Unknown
 returns-in-Unknown c = rw c.in-Unknown.is

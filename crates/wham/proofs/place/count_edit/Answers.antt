@@ -8,10 +8,13 @@ pub returns-in-Employer : goal.returns-in-Employer
 returns-in-Employer c = rw c.in-Employer.is
 
 pub returns-in-Employee : goal.returns-in-Employee
-returns-in-Employee c = rw (c.in-Employee.is, or-false) c.one_more.ensures
+returns-in-Employee c = rw c.in-Employee.is (simp or-false c.one_more.ensures)
 
 pub returns-in-Deposit : goal.returns-in-Deposit
-returns-in-Deposit c = rw c.in-Deposit.is c.one_more-in-Deposit.ensures
+returns-in-Deposit c = rw c.in-Deposit.is (simp or-false c.one_more-in-Deposit.ensures)
+
+pub returns-in-Explanation : goal.returns-in-Explanation
+returns-in-Explanation c = rw c.in-Explanation.is c.one_more-in-Explanation.ensures
 
 pub returns-in-Total : goal.returns-in-Total
 returns-in-Total c = rw c.in-Total.is

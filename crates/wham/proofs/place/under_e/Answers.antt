@@ -1,8 +1,25 @@
-use Rattle.wham_fields.specs.FieldTests.{only}
 use Rattle.wham.proofs.place.under_e.Goals as goal
 
-pub returns-then-follow : goal.returns-then-follow
-returns-then-follow c = rw c.if-follow.true c.under_one.ensures
+pub returns-in-Transmitter : goal.returns-in-Transmitter
+returns-in-Transmitter c = rw c.in-Transmitter.is
 
-pub returns : goal.returns
-returns c = rw (c.if-follow.false, only c.args.edition) c.under_zero.ensures
+pub returns-in-Employer : goal.returns-in-Employer
+returns-in-Employer c = rw c.in-Employer.is c.unless.ensures
+
+pub returns-in-Employee : goal.returns-in-Employee
+returns-in-Employee c = rw c.in-Employee.is c.unless-in-Employee.ensures
+
+pub returns-in-Deposit : goal.returns-in-Deposit
+returns-in-Deposit c = rw c.in-Deposit.is
+
+pub returns-in-Explanation : goal.returns-in-Explanation
+returns-in-Explanation c = rw c.in-Explanation.is
+
+pub returns-in-Total : goal.returns-in-Total
+returns-in-Total c = rw c.in-Total.is c.unless-in-Total.ensures
+
+pub returns-in-Final : goal.returns-in-Final
+returns-in-Final c = rw c.in-Final.is c.unless-in-Final.ensures
+
+pub returns-in-Unknown : goal.returns-in-Unknown
+returns-in-Unknown c = rw c.in-Unknown.is

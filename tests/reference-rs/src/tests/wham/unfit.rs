@@ -2,7 +2,6 @@
 
 use super::*;
 use crate::edits::Phase;
-use crate::format::Format;
 use crate::scripts::moments::Moment;
 use crate::walk::{MoreOfE, MoreOfFile, OpenE, Standing, State};
 use crate::wham::scripts::moments::{e_open, in_each_phase, LENT};
@@ -13,13 +12,13 @@ fn most(s: u64) -> u64 {
 }
 
 /// Whether a line call, an end call and, where no list decides, a writing call answer 72 to a state.
-fn unfit(moment: &Moment) -> bool {
-    let is_unfit = walk::unfit(EDITION, &moment.state, LENT.employers);
+fn unfit(edition: Edition, moment: &Moment) -> bool {
+    let is_unfit = walk::unfit(edition, &moment.state, LENT.employers);
     let Moment { state, tables } = moment.clone();
     let (mut after, mut ids, mut list) = (state, tables.ids.clone(), tables.list.clone());
-    let answer = walk::line(EDITION, &mut after, &mut ids, &mut list, b"").refusal;
+    let answer = walk::line(edition, &mut after, &mut ids, &mut list, b"").refusal;
     let end = walk::end(
-        EDITION,
+        edition,
         &mut state.clone(),
         &mut ids.clone(),
         &mut list.clone(),
@@ -32,17 +31,25 @@ fn unfit(moment: &Moment) -> bool {
     is_unfit
 }
 
-/// Of the walk with an E open, altered so.
+/// Of the walk with an E open, altered so, in both editions.
 fn is_unfit(alter: impl Fn(&mut State)) -> bool {
-    let mut moment = e_open();
+    let [one, other] = Edition::BOTH.map(|edition| is_unfit_in(edition, &alter));
+    assert_eq!(one, other);
+    one
+}
+
+fn is_unfit_in(edition: Edition, alter: impl Fn(&mut State)) -> bool {
+    let mut moment = e_open(edition);
     alter(&mut moment.state);
-    unfit(&moment)
+    unfit(edition, &moment)
 }
 
 #[test]
 fn no_walk_that_nobody_altered() {
-    for moment in in_each_phase() {
-        assert!(!unfit(&moment), "{:?}", moment.state.standing);
+    for edition in Edition::BOTH {
+        for moment in in_each_phase(edition) {
+            assert!(!unfit(edition, &moment), "{:?}", moment.state.standing);
+        }
     }
 }
 
@@ -50,14 +57,19 @@ fn no_walk_that_nobody_altered() {
 #[test]
 fn counts() {
     assert!(!is_unfit(|s| s.employers = 5) && is_unfit(|s| s.employers = 6));
-    let mut state = e_open().state;
-    for (employers, wanted) in [(65_536, false), (65_537, true)] {
-        state.employers = employers;
-        assert_eq!(walk::unfit(EDITION, &state, usize::MAX), wanted);
+    for edition in Edition::BOTH {
+        let mut state = e_open(edition).state;
+        for (employers, wanted) in [(65_536, false), (65_537, true)] {
+            state.employers = employers;
+            assert_eq!(walk::unfit(edition, &state, usize::MAX), wanted);
+        }
     }
     assert!(!is_unfit(|s| s.s = 100_000) && is_unfit(|s| s.s = 100_001));
     assert!(!is_unfit(|s| s.open.s = 5) && is_unfit(|s| s.open.s = 6));
-    assert!(!is_unfit(|s| s.lines_read = 331_074) && is_unfit(|s| s.lines_read = 331_075));
+    for (edition, most) in [(Edition::Of2024, 331_074), (Edition::Of2020, 431_074)] {
+        assert!(!is_unfit_in(edition, |s| s.lines_read = most));
+        assert!(is_unfit_in(edition, |s| s.lines_read = most + 1));
+    }
 }
 
 /// Point 3: four sums.
@@ -82,21 +94,30 @@ fn open_e() {
 /// "an E being open": else its numbers count for nothing, and no employer is needed.
 #[test]
 fn numbers_of_no_open_e() {
-    for place in [0, 1, 4, 5, 6, 7] {
-        let mut moment = in_each_phase()[place].clone();
-        moment.state.employers = 0;
-        moment.state.open = OpenE {
-            fein: u64::MAX,
-            says_s_follow: true,
-            s: u64::MAX,
-            cents: u64::MAX,
-            ids_in_use: u64::MAX,
-            more: MoreOfE {
-                second: u64::MAX,
-                ..MoreOfE::default()
-            },
-        };
-        assert!(!unfit(&moment), "{place}");
+    for edition in Edition::BOTH {
+        for moment in in_each_phase(edition) {
+            let mut moment = moment.clone();
+            if moment.state.standing == Standing::Among(Phase::EOpen) {
+                continue;
+            }
+            moment.state.employers = 0;
+            for noted in [false, true] {
+                moment.state.open = OpenE {
+                    fein: u64::MAX,
+                    says_s_follow: true,
+                    s: u64::MAX,
+                    cents: u64::MAX,
+                    ids_in_use: u64::MAX,
+                    more: MoreOfE {
+                        second: u64::MAX,
+                        noted,
+                        account: [u64::MAX; 2],
+                        ..MoreOfE::default()
+                    },
+                };
+                assert!(!unfit(edition, &moment));
+            }
+        }
     }
 }
 
@@ -105,25 +126,40 @@ fn numbers_of_no_open_e() {
 fn numbers_of_refused_walks() {
     let fields = [30, 32, 33, 34, 35, 36, 37, 39, 40, 41, 42, 43, 46, 47, 52];
     let totals = [55, 56, 57, 58, 59, 60, 61, 63, 70, 91];
+    let of_2020 = [44, 100, 101, 102, 103, 104];
     for number in 0..=255 {
         let listed = fields.contains(&number) || totals.contains(&number);
-        let fit = (1..=8).contains(&number) || (10..=20).contains(&number) || listed;
-        let mut moment = in_each_phase()[7].clone();
-        moment.state.standing = Standing::Refused(Refusal::new(number, 3, 4));
-        assert_eq!(!unfit(&moment), fit, "{number}");
-        // The quarters of a refused walk are not.
-        moment.state.held = Quarter::new(7, 7);
-        assert_eq!(!unfit(&moment), fit, "{number}");
-        moment.state.lines_read = 331_075;
-        assert!(unfit(&moment));
+        let in_both = (1..=8).contains(&number) || (10..=20).contains(&number) || listed;
+        for (edition, fit, most) in [
+            (Edition::Of2024, in_both, 331_074),
+            (
+                Edition::Of2020,
+                in_both || of_2020.contains(&number),
+                431_074,
+            ),
+        ] {
+            let mut moment = in_each_phase(edition)[7].clone();
+            moment.state.standing = Standing::Refused(Refusal::new(number, 3, 4));
+            assert_eq!(!unfit(edition, &moment), fit, "{number}");
+            // The quarters of a refused walk are not.
+            moment.state.held = Quarter::new(7, 7);
+            assert_eq!(!unfit(edition, &moment), fit, "{number}");
+            moment.state.lines_read = most + 1;
+            assert!(unfit(edition, &moment));
+        }
     }
 }
 
+/// In both editions.
 fn with_quarters(place: usize, held: (u64, u64), filed: (u64, u64)) -> bool {
-    let mut moment = in_each_phase()[place].clone();
-    moment.state.held = Quarter::new(held.0, held.1);
-    moment.state.quarter_of_a = Quarter::new(filed.0, filed.1);
-    unfit(&moment)
+    let [one, other] = Edition::BOTH.map(|edition| {
+        let mut moment = in_each_phase(edition)[place].clone();
+        moment.state.held = Quarter::new(held.0, held.1);
+        moment.state.quarter_of_a = Quarter::new(filed.0, filed.1);
+        unfit(edition, &moment)
+    });
+    assert_eq!(one, other);
+    one
 }
 
 /// Point 8, the quarter held.
@@ -178,8 +214,9 @@ fn quarters_filed() {
 /// "compared with nothing"
 #[test]
 fn what_is_not_read() {
-    for moment in in_each_phase() {
-        let mut altered = moment;
+    let all = Edition::BOTH.map(|edition| (edition, in_each_phase(edition)));
+    for (edition, moment) in all.iter().flat_map(|(e, m)| m.iter().map(move |m| (*e, m))) {
+        let mut altered = moment.clone();
         let state = &mut altered.state;
         state.open.ids_in_use = u64::MAX;
         state.open.says_s_follow = !state.open.says_s_follow;
@@ -187,7 +224,7 @@ fn what_is_not_read() {
             second: state.open.more.second,
             others: u64::MAX,
             nearest: u64::MAX,
-            noted: true,
+            noted: !state.open.more.noted,
             account: [u64::MAX; 2],
         };
         state.more = MoreOfFile {
@@ -195,29 +232,33 @@ fn what_is_not_read() {
             others: u64::MAX,
             notes: u64::MAX,
         };
-        assert!(!walk::unfit(EDITION, &altered.state, LENT.employers));
+        assert!(!walk::unfit(edition, &altered.state, LENT.employers));
     }
 }
 
 /// Sums and counts of a state that 72 lets pass never wrap, at whatever they stand.
 #[test]
 fn nothing_wraps() {
-    let mut moment = e_open();
-    let state = &mut moment.state;
-    assert_eq!(state.format, Format::WHAM_2024);
-    (state.s, state.cents, state.more.second) = (99_999, most(99_999), most(99_999));
-    (state.open.s, state.open.cents) = (99_999, most(99_999));
-    state.open.more.second = most(99_999);
-    state.lines_read = 331_074;
-    state.more.others = 99_999;
-    let quarter = state.quarter_of_a;
-    let s = record_s(quarter, 0, (999_999_999_999, 999_999_999_999), ACCOUNT);
-    for record in [s, record_r(quarter, 1)] {
-        let (mut state, mut list) = (moment.state, moment.tables.list.clone());
-        let bytes = file(&[record]);
-        let answer = walk::line(EDITION, &mut state, &mut [], &mut list, &bytes);
-        assert_eq!(answer.refusal, None);
-        assert_eq!(state.lines_read, 331_075);
-        assert_eq!(state.standing, Standing::Among(Phase::EOpen));
+    for edition in Edition::BOTH {
+        let mut moment = e_open(edition);
+        let state = &mut moment.state;
+        assert_eq!(state.format, edition.format());
+        (state.s, state.cents, state.more.second) = (99_999, most(99_999), most(99_999));
+        (state.open.s, state.open.cents) = (99_999, most(99_999));
+        state.open.more.second = most(99_999);
+        state.lines_read = walk::most_lines(edition);
+        (state.more.others, state.more.notes) = (99_999, 99_999);
+        let quarter = state.quarter_of_a;
+        let s = record_s(quarter, 0, (999_999_999_999, 999_999_999_999), ACCOUNT);
+        let b = record_b(quarter.year, state.open.fein, ACCOUNT);
+        let records = [s, record_r(quarter, 1), b];
+        for record in &records[..edition.under_e().len()] {
+            let (mut state, mut list) = (moment.state, moment.tables.list.clone());
+            let bytes = file(std::slice::from_ref(record));
+            let answer = walk::line(edition, &mut state, &mut [], &mut list, &bytes);
+            assert_eq!(answer.refusal, None);
+            assert_eq!(state.lines_read, walk::most_lines(edition) + 1);
+            assert_eq!(state.standing, Standing::Among(Phase::EOpen));
+        }
     }
 }

@@ -1,5 +1,4 @@
-//! The 25 worked cases of the rule list (10), with the answers written there. Those of edition 2020
-//! are typed too, and run as soon as there is that edition.
+//! The 25 worked cases of the rule list (10), with the answers written there.
 
 use super::*;
 use crate::exports;
@@ -17,11 +16,10 @@ enum Says {
 
 use Says::{Accepted, Frames, Passes, Refused};
 
-/// The editions that there are.
-fn edition_of(year: u16) -> Option<Edition> {
+fn edition_of(year: u16) -> Edition {
     match year {
-        2024 => Some(Edition::Of2024),
-        _ => None,
+        2024 => Edition::Of2024,
+        _ => Edition::Of2020,
     }
 }
 
@@ -30,9 +28,7 @@ fn check(case: u8, year: u16, records: &[Vec<u8>], says: Says) {
 }
 
 fn check_file(case: u8, year: u16, held: Quarter, file: &[u8], says: Says) {
-    let Some(edition) = edition_of(year) else {
-        return;
-    };
+    let edition = edition_of(year);
     let found = told_with(edition, held, ack::EMPLOYERS, file);
     let frames = String::from_utf8(ack::frames(&found)).unwrap();
     match says {
@@ -56,45 +52,12 @@ fn assert_passes(case: u8, edition: Edition, file: &[u8]) {
     }
 }
 
-/// The explanation of edition 2020.
-fn b() -> Vec<u8> {
-    let mut b = vec![b' '; 275];
-    for (column, text) in [
-        (1, &b"B"[..]),
-        (2, b"2024"),
-        (6, b"012345678"),
-        (15, b"WHAM"),
-        (19, b"HOURS OF MARCH CORRECTED"),
-        (265, b"12345678900"),
-    ] {
-        b = with(b, column, text);
-    }
-    b
-}
-
 fn file_1() -> Vec<Vec<u8>> {
-    vec![
-        a(),
-        e1(),
-        s(100_000, 123_456),
-        s(50, 44),
-        r(),
-        t(2, 100_050, 100_050, 123_500),
-        f(2, 1, 123_500),
-    ]
+    worked_file(Edition::Of2024)
 }
 
 fn file_2() -> Vec<Vec<u8>> {
-    vec![
-        a(),
-        b(),
-        e1(),
-        s(100_000, 123_456),
-        s(50, 44),
-        r(),
-        t(2, 400_000, 123_500, 500_000),
-        f(2, 1, 123_500),
-    ]
+    worked_file(Edition::Of2020)
 }
 
 const FRAMES_1: Says = Frames(
@@ -120,6 +83,16 @@ fn cases_1_to_4() {
     ] {
         assert_eq!(&t[column - 1..column - 1 + text.len()], text);
     }
+    let note = &file_2()[1];
+    for (column, text) in [
+        (1, &b"B"[..]),
+        (2, b"2024"),
+        (6, b"012345678"),
+        (15, b"WHAM"),
+        (265, b"12345678900"),
+    ] {
+        assert_eq!(&note[column - 1..column - 1 + text.len()], text);
+    }
     check(2, 2020, &file_2(), FRAMES_1);
     check(3, 2020, &file_1(), Refused(100, 6, 1));
     check(3, 2024, &file_2(), Refused(4, 2, 1));
@@ -128,7 +101,8 @@ fn cases_1_to_4() {
         "0000000000000000010000000000000000",
     );
     check(4, 2024, &[a(), e0(), f(0, 1, 0)], frames);
-    check(4, 2020, &[a(), b(), e0(), f(0, 1, 0)], Refused(17, 4, 1));
+    let records = [a(), b(), e0(), f(0, 1, 0)];
+    check(4, 2020, &records, Refused(17, 4, 1));
 }
 
 #[test]
@@ -250,7 +224,9 @@ fn cases_13_and_14() {
     for year in [2024, 2020] {
         check(13, year, &[with(a(), 6, b"000000000")], Passes);
     }
-    check(13, 2024, &[a(), with(e1(), 6, b"000000000")], Passes);
+    let zeros = |record| with(record, 6, b"000000000");
+    check(13, 2024, &[a(), zeros(e1())], Passes);
+    check(13, 2020, &[a(), zeros(b()), zeros(e1())], Passes);
     let file = |of_e: &[u8], of_s: &[u8]| {
         let (e, s) = (with(e1(), 258, of_e), with(s(5, 5), 215, of_s));
         vec![a(), e, s, t(1, 0, 5, 5), f(1, 1, 5)]
@@ -405,6 +381,7 @@ fn case_21_identity_numbers() {
     );
     let zeros = || numbered(b"000000000");
     check(21, 2024, &[a(), e1(), zeros(), zeros()], Passes);
+    check(21, 2020, &[a(), b(), e1(), zeros(), zeros()], Passes);
 }
 
 #[test]
@@ -466,9 +443,12 @@ fn case_23_lines_and_characters() {
 
 #[test]
 fn case_24_openings() {
-    for header in [&b"202412\n"[..], b"2026092\n"] {
-        let found = ack::outcome(EDITION, &[header, &file(&file_1())].concat());
-        assert_eq!(ack::frames(&found), b"FF46000000000000\n");
+    for edition in Edition::BOTH {
+        for header in [&b"202412\n"[..], b"2026092\n"] {
+            let file = file(&worked_file(edition));
+            let found = ack::outcome(edition, &[header, &file].concat());
+            assert_eq!(ack::frames(&found), b"FF46000000000000\n");
+        }
     }
     // An edition is a format of its own, and 2021 is the number of none.
     for (held, number) in [(HELD, 73), (Quarter::new(2024, 12), 70)] {
@@ -484,7 +464,7 @@ fn case_25_ends_lists_and_totals() {
     check(25, 2024, &[a(), e0()], Refused(7, 3, 1));
     check(25, 2024, &[a(), e0(), t0()], Refused(8, 4, 1));
     check(25, 2024, &[a(), f(0, 0, 0)], Refused(14, 2, 1));
-    let found = told_with(EDITION, HELD, 1, &file(&[a(), e0(), e0()]));
+    let found = told_with(Edition::Of2024, HELD, 1, &file(&[a(), e0(), e0()]));
     assert_eq!(found, refused(63, 3, 6));
     for (f, says) in [
         (f(3, 1, 123_500), Refused(58, 7, 2)),

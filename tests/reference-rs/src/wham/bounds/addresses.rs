@@ -1,10 +1,10 @@
 //! States, provinces, ZIP codes and extensions.
 
-use super::{refused_at, List, A, E, FILED, HELD};
+use super::{List, A, E};
 use crate::bounds::{EXTENSIONS, ZIPS};
 use crate::draft::{Address, OTTAWA};
 use crate::layout::{PROVINCES, STATES};
-use crate::wham::draft::{tidy, Draft, Employer, AUGUSTA};
+use crate::wham::draft::{Draft, Employer, AUGUSTA};
 
 pub fn add(list: &mut List) {
     list.name("codes");
@@ -16,16 +16,20 @@ pub fn add(list: &mut List) {
     both_wrong(list);
 }
 
-fn extension_at(place: usize) -> usize {
-    [159, 149][place]
+fn extension_at(line: usize) -> usize {
+    match line {
+        A => 159,
+        _ => 149,
+    }
 }
 
-/// A file of one E without T, with this address in A or in E.
-fn addressed(place: usize, address: &Address) -> Draft {
-    let mut draft = tidy(HELD, FILED, &[Employer::without_t(1)]);
-    draft.lines[place].put(139, &address.code);
-    draft.lines[place].put(154, &address.zip);
-    draft.lines[place].put(extension_at(place), &address.extension);
+/// A file of one E without T, where there may be such, with this address in A or in E.
+fn addressed(list: &List, line: usize, address: &Address) -> Draft {
+    let mut draft = list.of(&[Employer::without_t(1)]);
+    let own = &mut draft.lines[list.at(line)];
+    own.put(139, &address.code);
+    own.put(154, &address.zip);
+    own.put(extension_at(line), &address.extension);
     draft
 }
 
@@ -37,43 +41,41 @@ fn codes(list: &mut List) {
             let in_province = PROVINCES.contains(&&code);
             let known = in_province || STATES.contains(&&code);
             let address = if in_province { OTTAWA } else { AUGUSTA };
-            let one = usize::from((first + second) % 2);
-            for place in if known { A..=E } else { one..=one } {
-                let mut draft = addressed(place, &Address { code, ..address });
+            let one = [A, E][usize::from((first + second) % 2)];
+            for line in if known { vec![A, E] } else { vec![one] } {
+                let mut draft = addressed(list, line, &Address { code, ..address });
                 if first % 3 == 0 {
-                    draft.lines[place].text.make_ascii_lowercase();
+                    draft.lines[list.at(line)].text.make_ascii_lowercase();
                 }
-                list.add_if(&draft, known, refused_at(35, place, 139));
+                list.add_if(&draft, known, list.refused(35, line, 139));
             }
         }
     }
 }
 
 fn zip_codes(list: &mut List) {
-    for (place, (good, address)) in in_both_records() {
+    for (line, (good, address)) in in_both_records() {
         for (kind, zips) in ZIPS.into_iter().enumerate() {
             for zip in zips {
                 let zip = **zip;
-                let draft = addressed(place, &Address { zip, ..address });
-                list.add_if(&draft, kind == good, refused_at(36, place, 154));
+                let draft = addressed(list, line, &Address { zip, ..address });
+                list.add_if(&draft, kind == good, list.refused(36, line, 154));
             }
         }
     }
 }
 
 fn extensions(list: &mut List) {
-    for (place, (good, address)) in in_both_records() {
+    for (line, (good, address)) in in_both_records() {
         for (kind, extensions) in EXTENSIONS.into_iter().enumerate() {
             for extension in extensions {
                 let extension = **extension;
-                let draft = addressed(
-                    place,
-                    &Address {
-                        extension,
-                        ..address
-                    },
-                );
-                let told = refused_at(37, place, extension_at(place));
+                let address = Address {
+                    extension,
+                    ..address
+                };
+                let draft = addressed(list, line, &address);
+                let told = list.refused(37, line, extension_at(line));
                 list.add_if(&draft, kind == good, told);
             }
         }
@@ -82,7 +84,7 @@ fn extensions(list: &mut List) {
 
 /// A and E, each with an address in a state (kind 0) and in a province (kind 1).
 fn in_both_records() -> Vec<(usize, (usize, Address))> {
-    let both = |place| [(place, (0, AUGUSTA)), (place, (1, OTTAWA))];
+    let both = |line| [(line, (0, AUGUSTA)), (line, (1, OTTAWA))];
     [both(A), both(E)].into_iter().flatten().collect()
 }
 
@@ -93,21 +95,19 @@ fn both_wrong(list: &mut List) {
         zip: *b"     ",
         extension: *b"B1   ",
     };
-    list.add(&addressed(A, &wrong), refused_at(36, A, 154));
-    list.add(&addressed(E, &wrong), refused_at(37, E, 149));
-    for place in [A, E] {
+    list.add(&addressed(list, A, &wrong), list.refused(36, A, 154));
+    list.add(&addressed(list, E, &wrong), list.refused(37, E, 149));
+    for line in [A, E] {
         // With a code that is none, neither is looked at.
         let code = *b"XX";
-        list.add(
-            &addressed(place, &Address { code, ..wrong }),
-            refused_at(35, place, 139),
-        );
+        let draft = addressed(list, line, &Address { code, ..wrong });
+        list.add(&draft, list.refused(35, line, 139));
         // A province needs the extension that a state may leave out.
         let province = Address {
             extension: *b"     ",
             ..OTTAWA
         };
-        let told = refused_at(37, place, extension_at(place));
-        list.add(&addressed(place, &province), told);
+        let told = list.refused(37, line, extension_at(line));
+        list.add(&addressed(list, line, &province), told);
     }
 }

@@ -1,13 +1,12 @@
 //! Every column of a number with what is no digit, every column of a record with what is no
 //! character, and the columns that are ignored with anything.
 
-use super::{refused_at, tidy_example, List, A, E, F, R, S, T};
+use super::{List, A, B, E, F, R, S, T};
 use crate::draft::{not_digit, printable};
 use crate::gen::Meant;
 use crate::rng::Rng;
 use crate::wham::draft::IGNORED;
 use crate::wham::layout::fields_of;
-use crate::wham::Edition;
 
 pub fn add(list: &mut List, seed: u64) {
     let mut rng = Rng::of(seed, 99, 2);
@@ -51,12 +50,16 @@ const NUMBERS: [(usize, usize, usize); 23] = [
 
 /// The neighbours of the digits, a blank, a point, and any other, by turns.
 fn no_digits(list: &mut List, rng: &mut Rng) {
-    for (place, first, last) in NUMBERS {
+    let mut numbers = NUMBERS.to_vec();
+    if list.is_2020() {
+        numbers.extend([(B, 2, 5), (B, 6, 14), (B, 265, 275)]);
+    }
+    for (place, first, last) in numbers {
         for column in first..=last {
             let any = not_digit(rng);
             for c in [b'/', b':', rng.pick(b" .,+O"), any] {
-                let is_sign = (column, c) == (123, b'-');
-                if !is_sign {
+                let is_signed = column == 123 || column == 175 && list.is_2020();
+                if !is_signed || c != b'-' {
                     list.put_refused(place, column, &[c], (30, column));
                 }
             }
@@ -69,27 +72,31 @@ fn no_digits(list: &mut List, rng: &mut Rng) {
     }
 }
 
-/// A hyphen in each column of T 123-136; in the first it is a sign.
+/// A hyphen in each column of T 123-136, and in 2020 of T 175-188; in the first it is a sign.
 fn hyphens(list: &mut List) {
-    list.put_refused(T, 123, b"-", (57, 123));
-    for column in 124..=136 {
-        list.put_refused(T, column, b"-", (30, column));
-    }
-    for text in [b"--000000023450", b"-             ", b"+0000000023450"] {
-        let column = if text[0] == b'-' { 124 } else { 123 };
-        list.put_refused(T, 123, text, (30, column));
+    let signed: &[usize] = if list.is_2020() { &[123, 175] } else { &[123] };
+    for first in signed.iter().copied() {
+        list.put_refused(T, first, b"-", (57, first));
+        for column in first + 1..=first + 13 {
+            list.put_refused(T, column, b"-", (30, column));
+        }
+        for text in [b"--000000023450", b"-             ", b"+0000000023450"] {
+            let column = if text[0] == b'-' { first + 1 } else { first };
+            list.put_refused(T, first, text, (30, column));
+        }
     }
 }
 
 /// The first, the last and some other column of each field, ignored or not.
 fn no_characters(list: &mut List, rng: &mut Rng) {
     const BYTES: [u8; 8] = [0x00, 0x09, 0x1A, 0x1F, 0x7F, 0x80, 0xA0, 0xFF];
-    for place in [A, E, S, R, T, F] {
-        let letter = tidy_example().lines[place].letter();
-        for row in fields_of(Edition::Of2024, letter) {
+    for line in list.lines() {
+        let place = list.at(line);
+        let letter = list.example().lines[place].letter();
+        for row in fields_of(list.edition, letter) {
             for column in [row.first, row.last, rng.column(row.first, row.last)] {
                 let byte = BYTES[(place + column) % BYTES.len()];
-                list.put_refused(place, column, &[byte], (3, column));
+                list.put_refused(line, column, &[byte], (3, column));
             }
         }
     }
@@ -118,9 +125,10 @@ fn ignored(list: &mut List, rng: &mut Rng) {
         }
     }
     for c in 0x20..=0x7E {
-        let mut draft = tidy_example();
+        let mut draft = list.example();
         for (letter, first, last) in IGNORED {
-            draft.lines[places_of(letter)].put(first, &vec![c; last + 1 - first]);
+            let place = list.at(places_of(letter));
+            draft.lines[place].put(first, &vec![c; last + 1 - first]);
         }
         list.add(&draft, Meant::Accepted);
     }
@@ -133,8 +141,12 @@ fn beside_ignored(list: &mut List) {
         list.put_refused(place, column, text, (number, told));
     }
     // The account is a text: what stands in its last column makes it another one.
-    list.put(S, 225, b"~", refused_at(46, S, 215));
-    list.put(E, 268, b"~", refused_at(46, S, 215));
+    list.put_refused(S, 225, b"~", (46, 215));
+    let other_of_e = match list.is_2020() {
+        true => list.refused(104, E, 258),
+        false => list.refused(46, S, 215),
+    };
+    list.put(E, 268, b"~", other_of_e);
 }
 
 /// A line, a column next to an ignored one, and the number and column told if it is blotted out.

@@ -1,9 +1,9 @@
 //! Line lengths, line ends, characters and letters.
 
-use super::{refused, refused_at, tidy_example, List, A, E, F, R, S, T};
+use super::{refused, refused_at, List, A, F};
 use crate::draft::{put, ENDS, LF};
 use crate::gen::Meant;
-use crate::wham::draft::{record_a, AUGUSTA};
+use crate::wham::draft::{record_a, records, AUGUSTA};
 
 pub fn add(list: &mut List) {
     list.name("line lengths");
@@ -84,44 +84,51 @@ fn two_ends(list: &mut List) {
 
 /// Each end behind each line, and each pair of ends behind two neighbours.
 fn mixed_ends(list: &mut List) {
-    for place in A..=F {
+    let f = list.at(F);
+    for place in A..=f {
         for end in ENDS {
             for other in ENDS {
-                let mut draft = tidy_example();
+                let mut draft = list.example();
                 draft.lines[place].end = end.to_vec();
-                if place < F {
+                if place < f {
                     draft.lines[place + 1].end = other.to_vec();
                 }
                 list.add(&draft, Meant::Accepted);
             }
         }
-        let mut draft = tidy_example();
+        let mut draft = list.example();
         draft.lines[place].end.clear();
-        let meant = if place == F { (2, 276) } else { (1, 276) };
+        let meant = if place == f { (2, 276) } else { (1, 276) };
         list.add(&draft, refused_at(meant.0, place, meant.1));
         draft.lines[place].end = b"\n\r".to_vec();
         list.add(&draft, refused_at(1, place + 1, 1));
     }
 }
 
-/// Every character as the letter of each record: 4 for all but six, which are out of place, or are
-/// read as another record.
+/// Every character as the letter of each record: 4 for all but those of the edition, which are out of
+/// place, or are read as another record.
 fn letters(list: &mut List) {
-    for place in [A, E, S, R, T, F] {
+    for line in list.lines() {
         for c in 0x20..=0x7E_u8 {
-            let is_letter = b"AESRTF".contains(&c.to_ascii_uppercase());
+            let is_letter = records(list.edition).contains(&c.to_ascii_uppercase());
             let meant = if is_letter {
                 Meant::Unsaid
             } else {
-                refused_at(4, place, 1)
+                list.refused(4, line, 1)
             };
-            list.put(place, 1, &[c], meant);
+            list.put(line, 1, &[c], meant);
         }
     }
-    // B is no letter of this edition, wherever it stands.
-    for place in A..=F + 1 {
+    if !list.is_2020() {
+        b_is_no_letter(list);
+    }
+}
+
+/// Of 2024, wherever it stands.
+fn b_is_no_letter(list: &mut List) {
+    for place in A..=list.at(F) + 1 {
         for letter in *b"Bb" {
-            let mut draft = tidy_example();
+            let mut draft = list.example();
             draft.insert(place, [&[letter][..], &[b' '; 274][..]].concat());
             list.add(&draft, refused_at(4, place, 1));
         }

@@ -1,6 +1,6 @@
 //! The quarter held, A's year, the months of E and S, and the dates of R.
 
-use super::{refused, refused_at, List, A, E, FILED, HELD, R, S};
+use super::{refused, refused_at, List, A, E, HELD, R, S};
 use crate::breaks::NO_PERIODS;
 use crate::calendar::Quarter;
 use crate::gen::Meant;
@@ -28,12 +28,12 @@ fn filed(list: &mut List, held: Quarter, quarter: Quarter) {
     let meant = if quarter.year > held.year {
         refused(39, 1, 2)
     } else if quarter.year == held.year && quarter.month > held.month {
-        refused(41, 2, 188)
+        list.refused(41, E, 188)
     } else {
         Meant::Accepted
     };
     let employers = [Employer::without_t(1), Employer::of(2, &[(1, 2, 3)])];
-    list.add(&tidy(held, quarter, &employers), meant);
+    list.add(&tidy(list.edition, held, quarter, &employers), meant);
 }
 
 /// Every quarter of the held one's year, of the one before and of the one after.
@@ -78,7 +78,7 @@ fn months(list: &mut List) {
     }
     for month in [b"06", b"09", b"12"] {
         // The first E sets the month, so the first S is the one that is wrong.
-        list.put(E, 188, month, refused_at(43, S, 46));
+        list.put(E, 188, month, list.refused(43, S, 46));
         list.put_refused(S, 46, month, (43, 46));
         list.put_refused(S + 1, 46, month, (43, 46));
     }
@@ -86,9 +86,10 @@ fn months(list: &mut List) {
 
 /// The first E goes by the phase: one that no T closes is the first all the same.
 fn later_employers(list: &mut List) {
+    let edition = list.edition;
     let of = |first: Employer, month: u64| {
         let employers = [first, Employer::without_t(2), Employer::of(3, &[])];
-        let mut draft = tidy(HELD, Quarter::new(2024, 6), &employers);
+        let mut draft = tidy(edition, HELD, Quarter::new(2024, 6), &employers);
         let second = draft.places(b'E')[1];
         draft.lines[second].put_number(188, 189, month);
         (draft, second)
@@ -105,11 +106,14 @@ fn later_employers(list: &mut List) {
     }
     // A later E of a quarter that is not closed is told as another month.
     let employers = [Employer::without_t(1), Employer::without_t(2)];
-    let mut draft = tidy(HELD, HELD, &employers);
-    draft.lines[2].put(188, b"12");
-    list.add(&draft, refused(43, 3, 188));
-    draft.lines[1].put(188, b"12");
-    list.add(&draft, refused(41, 2, 188));
+    let mut draft = tidy(edition, HELD, HELD, &employers);
+    let [first, second] = draft.places(b'E')[..] else {
+        unreachable!("there are two");
+    };
+    draft.lines[second].put(188, b"12");
+    list.add(&draft, refused_at(43, second, 188));
+    draft.lines[first].put(188, b"12");
+    list.add(&draft, refused_at(41, first, 188));
 }
 
 /// The last day of each quarter, and what is not.
@@ -123,9 +127,11 @@ fn dates(list: &mut List) {
                     ..Employer::without_t(1)
                 };
                 let held = Quarter::new(2026, 12);
-                let mut draft = tidy(held, Quarter::new(year, month), &[employer]);
-                draft.lines[2].put_number(2, 9, date);
-                list.add_if(&draft, date == right, refused(91, 3, 2));
+                let quarter = Quarter::new(year, month);
+                let mut draft = tidy(list.edition, held, quarter, &[employer]);
+                let r = list.at(E) + 1;
+                draft.lines[r].put_number(2, 9, date);
+                list.add_if(&draft, date == right, refused_at(91, r, 2));
             }
         }
     }
@@ -168,7 +174,7 @@ fn headers(list: &mut List) {
         (b"20260 \n", false),
         (b"202609", false),
     ] {
-        let mut draft = tidy(HELD, FILED, &[Employer::without_t(1)]);
+        let mut draft = list.of(&[Employer::without_t(1)]);
         draft.header = header.to_vec();
         list.add_if(&draft, passes, refused(70, 0, 0));
     }

@@ -1,6 +1,6 @@
 //! Counts, sums and the amount due in T and F.
 
-use super::{refused, refused_at, tidy_example, List, F, FILED, HELD, T};
+use super::{refused_at, List, E, F, T};
 use crate::gen::Meant;
 use crate::wham::draft::*;
 
@@ -44,13 +44,13 @@ fn counts(list: &mut List) {
         [(T, 2, 8, 2, 55), (F, 2, 11, 2, 58), (F, 12, 21, 1, 59)]
     {
         for told in if place == T { &in_t[..] } else { &in_f } {
-            let mut draft = tidy_example();
-            draft.lines[place].put_number(first, last, *told);
-            list.add_if(&draft, *told == right, refused_at(number, place, first));
+            let mut draft = list.example();
+            draft.lines[list.at(place)].put_number(first, last, *told);
+            list.add_if(&draft, *told == right, list.refused(number, place, first));
         }
     }
     for told in [b"0000", b"0001", b"0005", b"9999"] {
-        list.put(super::E, 225, told, Meant::Accepted);
+        list.put(E, 225, told, Meant::Accepted);
     }
 }
 
@@ -62,20 +62,26 @@ fn counts_without_s(list: &mut List) {
                 under: vec![Under::R(7); deposits],
                 ..Employer::of(1, &[])
             };
-            let mut draft = tidy(HELD, FILED, &[employer]);
-            draft.lines[1].put(190, b"1");
-            draft.lines[2 + deposits].put_number(2, 8, told);
-            list.add(&draft, refused_at(number, 2 + deposits, 2));
+            let mut draft = list.of(&[employer]);
+            let (e, t) = (list.at(E), list.at(E) + 1 + deposits);
+            draft.lines[e].put(190, b"1");
+            draft.lines[t].put_number(2, 8, told);
+            list.add(&draft, refused_at(number, t, 2));
         }
     }
 }
 
+/// Where the T of `due_of` stands.
+fn t_of_due(list: &List) -> usize {
+    list.at(E) + 2
+}
+
 /// One employer with one S of this correct amount, these payments, and this amount due.
-fn due_of(correct: u64, payments: u64, due: &str) -> Draft {
+fn due_of(list: &List, correct: u64, payments: u64, due: &str) -> Draft {
     let mut employer = Employer::of(1, &[(1, 0, correct)]);
     employer.payments = Some(payments);
-    let mut draft = tidy(HELD, FILED, &[employer]);
-    draft.lines[3].put(123, due.as_bytes());
+    let mut draft = list.of(&[employer]);
+    draft.lines[t_of_due(list)].put(123, due.as_bytes());
     draft
 }
 
@@ -96,7 +102,7 @@ fn dues(list: &mut List) {
         (most, most, "00000000000000"),
         (most - 1, most, "-0000000000001"),
     ] {
-        list.add(&due_of(correct, payments, due), Meant::Accepted);
+        list.add(&due_of(list, correct, payments, due), Meant::Accepted);
     }
 }
 
@@ -119,7 +125,8 @@ fn dues_that_are_not(list: &mut List) {
         (0, 0, "99999999999999", (57, 123)),
         (0, 1, "00000000000001", (57, 123)),
     ] {
-        list.add(&due_of(correct, payments, due), refused(told.0, 4, told.1));
+        let draft = due_of(list, correct, payments, due);
+        list.add(&draft, refused_at(told.0, t_of_due(list), told.1));
     }
 }
 
@@ -127,7 +134,7 @@ fn dues_that_are_not(list: &mut List) {
 type Changed = (&'static [(usize, &'static [u8])], u8, usize);
 
 /// 213-226 is read only if it is a number, and 175-188 is told before it. Payments are compared with
-/// nothing else.
+/// nothing else. These are of 2024.
 const OF_ONE_T: [Changed; 11] = [
     (&[(226, b"X")], 30, 226),
     (&[(226, b"X"), (123, b"00000000000000")], 30, 226),
@@ -143,65 +150,82 @@ const OF_ONE_T: [Changed; 11] = [
 ];
 
 fn amounts_of_one_t(list: &mut List) {
+    let t = t_of_due(list);
     for (changes, number, column) in OF_ONE_T {
-        let mut draft = due_of(1_070, 10_000, "-0000000008930");
+        let mut draft = due_of(list, 1_070, 10_000, "-0000000008930");
         for (first, text) in changes {
-            draft.lines[3].put(*first, text);
+            draft.lines[t].put(*first, text);
         }
-        list.add_if(&draft, number == 0, refused_at(number, 3, column));
+        // In 2020 175-188 is signed, and 213-226 that of all employees.
+        let number = match (list.is_2020(), number, column) {
+            (true, 30, 175) => 57,
+            (true, 57, 213) => 0,
+            _ => number,
+        };
+        list.add_if(&draft, number == 0, refused_at(number, t, column));
     }
 }
 
 /// So many S records under one E, each with these amounts; the first adds `more` to both.
-fn many(count: usize, amount: u64, more: u64) -> Draft {
+fn many(list: &List, count: usize, amount: u64, more: u64) -> Draft {
     let mut people = vec![(1, amount, amount); count];
     people.push((2, more, more));
-    tidy(HELD, FILED, &[Employer::of(1, &people)])
+    list.of(&[Employer::of(1, &people)])
 }
 
 /// 100 of the greatest amounts and 99 cents stand in T's columns; one cent more does not.
 fn sums_of_t(list: &mut List) {
-    let draft = many(100, MOST_OF_S, 99);
-    assert_eq!(draft.lines[103].value(213, 226), MOST_OF_T);
+    let draft = many(list, 100, MOST_OF_S, 99);
+    let t = list.at(E) + 102;
+    assert_eq!(draft.lines[t].value(213, 226), MOST_OF_T);
     list.add(&draft, Meant::Accepted);
     for (first, last, told) in [(175, 188, 175), (213, 226, 123)] {
         for wrong in [0, MOST_OF_T - 1, 11 + (1 << 32), 1 << 40] {
             let mut draft = draft.clone();
-            draft.lines[103].put_number(first, last, wrong);
-            list.add(&draft, refused_at(57, 103, told));
+            draft.lines[t].put_number(first, last, wrong);
+            list.add(&draft, refused_at(57, t, told));
         }
     }
-    // The two sums are not each other's.
+    // The two sums are not each other's; in 2020 that of original amounts stands nowhere.
     let people = [(1, 5, 700), (2, 6, 800)];
-    let mut draft = tidy(HELD, FILED, &[Employer::of(1, &people)]);
+    let mut draft = list.of(&[Employer::of(1, &people)]);
+    let t = list.at(E) + 3;
     list.add(&draft, Meant::Accepted);
-    draft.lines[4].put_number(175, 188, 1_500);
-    list.add(&draft, refused(57, 5, 175));
-    draft.lines[4].put_number(175, 188, 11);
-    draft.lines[4].put_number(213, 226, 11);
-    put_due(&mut draft.lines[4]);
-    list.add(&draft, refused(57, 5, 213));
+    let (right, other) = match list.is_2020() {
+        true => (1_500, 11),
+        false => (11, 1_500),
+    };
+    draft.lines[t].put_number(175, 188, other);
+    list.add(&draft, refused_at(57, t, 175));
+    draft.lines[t].put_number(175, 188, right);
+    draft.lines[t].put_number(213, 226, 11);
+    put_due(&mut draft.lines[t]);
+    list.add_if(&draft, list.is_2020(), refused_at(57, t, 213));
 }
 
 /// 10^14 or more never stands in T, however it is cut.
 fn sums_that_t_cannot_tell(list: &mut List) {
-    let people = |original, correct| {
+    let people = |list: &List, original, correct| {
         let mut people = vec![(1, original, correct); 100];
         people.push((2, 100, 100));
-        tidy(HELD, FILED, &[Employer::of(1, &people)])
+        list.of(&[Employer::of(1, &people)])
     };
-    for (original, correct, column) in [
-        (MOST_OF_S, 0, 175),
-        (0, MOST_OF_S, 213),
-        (MOST_OF_S, MOST_OF_S, 175),
+    let t = list.at(E) + 102;
+    // The column that is wrong in 2024, and in 2020; 0 is acceptance.
+    for (original, correct, columns) in [
+        (MOST_OF_S, 0, [175, 0]),
+        (0, MOST_OF_S, [213, 175]),
+        (MOST_OF_S, MOST_OF_S, [175, 175]),
     ] {
-        let draft = people(original, correct);
-        list.add(&draft, refused_at(57, 103, column));
+        let column = columns[usize::from(list.is_2020())];
+        let draft = people(list, original, correct);
+        list.add_if(&draft, column == 0, refused_at(57, t, column));
         for wrong in [MOST_OF_T, 1 << 46] {
             let mut draft = draft.clone();
-            draft.lines[103].put_number(column, column + 13, wrong);
-            put_due(&mut draft.lines[103]);
-            list.add(&draft, refused_at(57, 103, column));
+            let column = column.max(175);
+            draft.lines[t].put_number(column, column + 13, wrong);
+            put_due(&mut draft.lines[t]);
+            list.add(&draft, refused_at(57, t, column));
         }
     }
 }
@@ -209,14 +233,14 @@ fn sums_that_t_cannot_tell(list: &mut List) {
 /// Ten employers with one cent less than 10^14 each, and the cents up to 10^15, or one too many. F
 /// is compared with S records: with correct amounts, not with original ones.
 fn sums_of_f(list: &mut List) {
-    let of = |cents: u64| {
+    let of = |list: &List, cents: u64| {
         let mut people = vec![(1, 0, MOST_OF_S); 100];
         people.push((2, 7, 99));
         let mut employers = vec![Employer::of(1, &people); 10];
         employers.push(Employer::of(2, &[(3, 8, cents)]));
-        tidy(HELD, FILED, &employers)
+        list.of(&employers)
     };
-    let draft = of(9);
+    let draft = of(list, 9);
     let f = draft.lines.len() - 1;
     list.add(&draft, Meant::Accepted);
     for wrong in [0, 78, MOST_OF_T] {
@@ -224,7 +248,7 @@ fn sums_of_f(list: &mut List) {
         draft.lines[f].put_number(41, 55, wrong);
         list.add(&draft, refused_at(60, f, 41));
     }
-    list.add(&of(10), refused_at(60, f, 41));
+    list.add(&of(list, 10), refused_at(60, f, 41));
     // F against T fields that are right, and against T fields that are not.
     for told in [
         b"000000000123499",
@@ -232,7 +256,7 @@ fn sums_of_f(list: &mut List) {
         b"000000000100050",
         b"000000000000000",
     ] {
-        list.put(F, 41, told, refused_at(60, F, 41));
+        list.put_refused(F, 41, told, (60, 41));
     }
 }
 
@@ -250,10 +274,10 @@ fn zero_returns(list: &mut List) {
         for second in kinds {
             for third in kinds {
                 let employers = [first(), second(), third()];
-                list.add(&tidy(HELD, FILED, &employers), Meant::Accepted);
+                list.add(&list.of(&employers), Meant::Accepted);
                 // R records in place of S records: then it says 0.
                 let employers = [with_r(first()), second(), with_r(third())];
-                list.add(&tidy(HELD, FILED, &employers), Meant::Accepted);
+                list.add(&list.of(&employers), Meant::Accepted);
             }
         }
     }
@@ -264,13 +288,14 @@ fn zero_returns(list: &mut List) {
         (226, b"1", (57, 123)),
         (122, b"1", (57, 123)),
     ] {
-        let mut draft = tidy(HELD, FILED, &[with_t()]);
-        draft.lines[2].put(column, text);
-        list.add(&draft, refused(told.0, 3, told.1));
+        let mut draft = list.of(&[with_t()]);
+        let t = list.at(E) + 1;
+        draft.lines[t].put(column, text);
+        list.add(&draft, refused_at(told.0, t, told.1));
     }
     let employer = Employer {
         payments: Some(MOST_OF_PAYMENTS),
         ..with_t()
     };
-    list.add(&tidy(HELD, FILED, &[employer]), Meant::Accepted);
+    list.add(&list.of(&[employer]), Meant::Accepted);
 }

@@ -7,6 +7,7 @@ use crate::calendar::Quarter;
 use crate::draft::{not_blank, Line};
 use crate::rng::Rng;
 use crate::wham::draft::{last_day, put_due, Draft};
+use crate::wham::Edition;
 
 pub fn add(list: &mut List) {
     late_files(list);
@@ -37,6 +38,11 @@ fn late_files(list: &mut List) {
         }
         draft.lines[0].put_number(2, 5, draft.held.year);
         draft.lines[place].put_number(2, 5, draft.held.year);
+        if draft.edition.has_b() {
+            for note in draft.places(b'B').into_iter().filter(|note| *note < place) {
+                draft.lines[note].put_number(2, 5, draft.held.year);
+            }
+        }
         draft.lines[place].put_number(188, 189, rng.pick(&later));
         draft.focus = Some(place);
         Some(meant(41, place, 188))
@@ -101,14 +107,15 @@ fn deposits(list: &mut List) {
 
 /// 46: an account that differs in one column, or in all.
 fn accounts(list: &mut List) {
-    list.in_line(46, b'S', "another account", |rng, line| {
+    let may_have_blanks = list.edition == Edition::Of2024;
+    list.in_line(46, b'S', "another account", move |rng, line| {
         let own = line.columns(215, 225);
         let mut other = match rng.one_in(4) {
             true => (0..11).map(|_| not_blank(rng)).collect(),
             false => own.clone(),
         };
         let place = rng.end_or_between(0, 10);
-        other[place] = match rng.one_in(4) && place > 0 {
+        other[place] = match may_have_blanks && rng.one_in(4) && place > 0 {
             true => b' ',
             false => not_blank(rng),
         };
@@ -138,9 +145,10 @@ fn counts_of_t(list: &mut List) {
     list.add(56, "no S though E says 1", |rng, draft| {
         let e = draft.choose(rng, b'E')?;
         remove_s_under(draft, e);
-        let behind = draft.lines[e + 1..].iter();
-        let deposits = behind.take_while(|line| line.letter() == b'R').count();
-        let place = e + 1 + deposits;
+        let under = draft.edition.under_e();
+        let is_other = |line: &&Line| line.letter() != b'S' && under.contains(&line.letter());
+        let others = draft.lines[e + 1..].iter().take_while(is_other).count();
+        let place = e + 1 + others;
         if !draft.is(place, b'T') {
             return None;
         }
@@ -153,7 +161,8 @@ fn counts_of_t(list: &mut List) {
 
 fn remove_s_under(draft: &mut Draft, e: usize) {
     let mut place = e + 1;
-    while draft.is(place, b'S') || draft.is(place, b'R') {
+    let under = draft.edition.under_e();
+    while under.iter().any(|letter| draft.is(place, *letter)) {
         match draft.is(place, b'S') {
             true => drop(draft.lines.remove(place)),
             false => place += 1,
@@ -161,20 +170,26 @@ fn remove_s_under(draft: &mut Draft, e: usize) {
     }
 }
 
-/// 57 at each of its three fields.
+/// 57 at each of its fields: 213-226 is one in 2024 alone.
 fn amounts_of_t(list: &mut List) {
     wrong_total(list, 57, b'T', 175, 188);
-    list.in_line(
-        57,
-        b'T',
-        "wrong 213-226, and 123-136 with it",
-        |rng, line| {
-            let other = another(rng, line.value(213, 226), 14)?;
-            line.put_number(213, 226, other);
-            put_due(line);
-            Some(213)
-        },
-    );
+    match list.edition {
+        Edition::Of2024 => {
+            let name = "wrong 213-226, and 123-136 with it";
+            list.in_line(57, b'T', name, |rng, line| {
+                let other = another(rng, line.value(213, 226), 14)?;
+                line.put_number(213, 226, other);
+                put_due(line);
+                Some(213)
+            });
+        }
+        Edition::Of2020 => {
+            list.in_line(57, b'T', "a hyphen in 175", |_, line| {
+                line.put(175, b"-");
+                (line.value(176, 188) > 0).then_some(175)
+            });
+        }
+    }
     list.in_line(57, b'T', "wrong 213-226 alone", |rng, line| {
         let other = another(rng, line.value(213, 226), 14)?;
         line.put_number(213, 226, other);

@@ -1,4 +1,4 @@
-//! 30, 32 to 37, 40, 47 and 52: rules that read their own line only.
+//! 30, 32 to 37, 40, 44, 47, 52 and 103: rules that read their own line only.
 
 use super::List;
 use crate::breaks::{
@@ -7,6 +7,8 @@ use crate::breaks::{
 };
 use crate::draft::{not_digit, printable, Line};
 use crate::rng::Rng;
+use crate::wham::valid::fein_near;
+use crate::wham::Edition;
 
 pub fn add(list: &mut List) {
     numbers(list);
@@ -18,10 +20,17 @@ pub fn add(list: &mut List) {
     zip_codes(list);
     months_and_flags(list);
     identity_numbers(list);
+    if list.edition == Edition::Of2020 {
+        feins(list);
+        explanations(list);
+    }
 }
 
+/// A letter, and the first and last column of a field of its record.
+type Field = (u8, usize, usize);
+
 /// The fields whose class test gives 30 in every column; T 123-136 is another.
-pub const NUMBERS: [(u8, usize, usize); 22] = [
+const NUMBERS: [Field; 22] = [
     (b'A', 2, 5),
     (b'A', 6, 14),
     (b'A', 194, 203),
@@ -46,9 +55,19 @@ pub const NUMBERS: [(u8, usize, usize); 22] = [
     (b'F', 41, 55),
 ];
 
+/// In 2020 T 175-188 is as 123-136, and B has three.
+fn numbers_of(edition: Edition) -> Vec<Field> {
+    let mut fields = NUMBERS.to_vec();
+    if edition == Edition::Of2020 {
+        fields.retain(|field| *field != (b'T', 175, 188));
+        fields.extend([(b'B', 2, 5), (b'B', 6, 14), (b'B', 265, 275)]);
+    }
+    fields
+}
+
 /// 30.
 fn numbers(list: &mut List) {
-    for (letter, first, last) in NUMBERS {
+    for (letter, first, last) in numbers_of(list.edition) {
         list.in_line(30, letter, format!("no digit in {first}-{last}"), {
             move |rng, line| {
                 let column = rng.end_or_between(first, last);
@@ -69,31 +88,41 @@ fn numbers(list: &mut List) {
     }
 }
 
-/// 30 in T 123-136: a hyphen may stand in 123 alone.
+/// 30 in T 123-136, and in 2020 in T 175-188: a hyphen may stand in the first column alone.
 fn signs(list: &mut List) {
-    list.in_line(30, b'T', "no sign in 123", |rng, line| {
+    signs_in(list, 123);
+    if list.edition == Edition::Of2020 {
+        signs_in(list, 175);
+    }
+}
+
+fn signs_in(list: &mut List, first: usize) {
+    let last = first + 13;
+    list.in_line(30, b'T', format!("no sign in {first}"), move |rng, line| {
         let c = not_digit(rng);
         if c == b'-' {
             return None;
         }
-        line.put(123, &[c]);
-        Some(123)
+        line.put(first, &[c]);
+        Some(first)
     });
-    list.in_line(30, b'T', "no digit in 124-136", |rng, line| {
-        let column = rng.end_or_between(124, 136);
+    let name = format!("no digit in {}-{last}", first + 1);
+    list.in_line(30, b'T', name, move |rng, line| {
+        let column = rng.end_or_between(first + 1, last);
         let any = not_digit(rng);
         line.put(column, &[rng.pick(&[any, b'-', b' ', b'+'])]);
         Some(column)
     });
-    list.in_line(30, b'T', "the sign behind zeros in 123-136", |rng, line| {
-        let column = rng.column(124, 136);
-        line.put(123, b"00000000000000");
+    let name = format!("the sign behind zeros in {first}-{last}");
+    list.in_line(30, b'T', name, move |rng, line| {
+        let column = rng.column(first + 1, last);
+        line.put(first, b"00000000000000");
         line.put(column, b"-");
         Some(column)
     });
 }
 
-const REQUIRED: [(u8, usize, usize); 11] = [
+const REQUIRED: [Field; 11] = [
     (b'A', 24, 73),
     (b'A', 74, 113),
     (b'A', 114, 138),
@@ -117,8 +146,12 @@ fn texts(list: &mut List) {
             }
         });
     }
-    let optional = [(b'A', 204, 207), (b'E', 218, 224)];
-    for (letter, first, last) in REQUIRED.into_iter().chain(optional) {
+    let mut left_justified = REQUIRED.to_vec();
+    left_justified.extend([(b'A', 204, 207), (b'E', 218, 224)]);
+    if list.edition == Edition::Of2020 {
+        left_justified.push((b'B', 19, 264));
+    }
+    for (letter, first, last) in left_justified {
         list.in_line(33, letter, format!("not left justified {first}-{last}"), {
             move |rng, line| {
                 line.put(first, b" ");
@@ -131,8 +164,9 @@ fn texts(list: &mut List) {
 
 /// 32 in E 218-224: a processor without a licence.
 fn licences(list: &mut List) {
-    list.in_line(32, b'E', "no licence in 218-224", |rng, line| {
-        let any = rng.between(1, 999_999_999);
+    let edition = list.edition;
+    list.in_line(32, b'E', "no licence in 218-224", move |rng, line| {
+        let any = fein_near(edition, rng.between(1, 999_999_999));
         line.put_number(209, 217, rng.pick(&[1, 100_000_000, any]));
         line.put(218, b"       ");
         Some(218)
@@ -148,7 +182,8 @@ const NO_ENTITIES: [&[u8; 4]; 14] = [
 
 /// 34.
 fn entities(list: &mut List) {
-    for (letter, first) in ENTITIES {
+    let of_b = list.edition.has_b().then_some((b'B', 15));
+    for (letter, first) in ENTITIES.into_iter().chain(of_b) {
         list.in_line(34, letter, "wrong entity code", move |rng, line| {
             let entity = rng.pick(&NO_ENTITIES);
             line.put(first, entity);
@@ -235,5 +270,43 @@ fn identity_numbers(list: &mut List) {
         let issued = 900_700_000 + rng.below(10_000);
         line.put_number(2, 10, rng.pick(&[any, issued, 900_000_000, 999_999_999]));
         Some(2)
+    });
+    if list.edition == Edition::Of2020 {
+        for id in [111_111_111, 333_333_333, 123_456_789] {
+            list.in_line(52, b'S', format!("identity number {id}"), move |_, line| {
+                line.put_number(2, 10, id);
+                Some(2)
+            });
+        }
+    }
+}
+
+/// 44, in 2020.
+fn feins(list: &mut List) {
+    for (letter, first) in [(b'A', 6), (b'B', 6), (b'E', 6), (b'E', 209)] {
+        let name = format!("69 in front of {first}-{}", first + 8);
+        list.in_line(44, letter, name, move |rng, line| {
+            let any = 690_000_000 + rng.below(10_000_000);
+            let fein = rng.pick(&[any, 690_000_000, 699_999_999]);
+            line.put_number(first, first + 8, fein);
+            Some(first)
+        });
+    }
+}
+
+/// 33 for an account that lacks some of its columns, and 103, in 2020.
+fn explanations(list: &mut List) {
+    for (letter, first) in [(b'E', 258), (b'S', 215)] {
+        let name = format!("a blank within {first}-{}", first + 10);
+        list.in_line(33, letter, name, move |rng, line| {
+            let from = rng.end_or_between(first + 1, first + 10);
+            let to = rng.pick(&[from, from, first + 10]);
+            line.put(from, &vec![b' '; to + 1 - from]);
+            Some(first)
+        });
+    }
+    list.in_line(103, b'B', "no explanation", |_, line| {
+        line.put(19, &[b' '; 246]);
+        Some(19)
     });
 }

@@ -1,8 +1,9 @@
 //! 1 to 8: lines, characters, letters, and the end of the input.
 
-use super::{meant, List, RECORDS};
+use super::{meant, List};
 use crate::breaks::bad_byte;
 use crate::draft::{printable, Line, CR, ENDS};
+use crate::wham::draft::records;
 
 pub fn add(list: &mut List) {
     lengths(list);
@@ -15,7 +16,7 @@ pub fn add(list: &mut List) {
 
 /// 1.
 fn lengths(list: &mut List) {
-    for letter in RECORDS {
+    for letter in records(list.edition).iter().copied() {
         list.in_line(1, letter, "too short", |rng, line| {
             let any = rng.column(1, 274);
             let length = rng.pick(&[274, any]);
@@ -33,7 +34,7 @@ fn lengths(list: &mut List) {
             }
             Some(276)
         });
-        // 001: "In files with a record length of 276, the 276th character must contain a blank"
+        // Both documents: "In files with a record length of 276, the 276th character must contain a blank"
         list.in_line(1, letter, "a blank more", |_, line| {
             line.text.push(b' ');
             Some(276)
@@ -43,7 +44,7 @@ fn lengths(list: &mut List) {
 
 /// 1 again: ends too many and too few.
 fn ends_between_lines(list: &mut List) {
-    for letter in RECORDS {
+    for letter in records(list.edition).iter().copied() {
         list.at_line(1, letter, "empty line behind", |rng, draft, place| {
             // CR and then LF would be one end.
             let ends = match draft.lines[place].end == CR {
@@ -55,7 +56,7 @@ fn ends_between_lines(list: &mut List) {
             Some(meant(1, place + 1, 1))
         });
     }
-    for letter in *b"AESRT" {
+    for letter in records(list.edition).iter().copied().filter(|l| *l != b'F') {
         list.at_line(
             1,
             letter,
@@ -78,7 +79,7 @@ fn ends_between_lines(list: &mut List) {
 
 /// 2.
 fn ends_of_input(list: &mut List) {
-    for letter in RECORDS {
+    for letter in records(list.edition).iter().copied() {
         list.at_line(2, letter, "no end behind", |_, draft, place| {
             draft.lines.truncate(place + 1);
             draft.lines[place].end.clear();
@@ -89,7 +90,7 @@ fn ends_of_input(list: &mut List) {
 
 /// 3: in any column, ignored or not.
 fn characters(list: &mut List) {
-    for letter in RECORDS {
+    for letter in records(list.edition).iter().copied() {
         list.in_line(3, letter, "bad character", |rng, line| {
             let column = rng.end_or_between(1, 275);
             line.put(column, &[bad_byte(rng)]);
@@ -102,13 +103,14 @@ fn characters(list: &mut List) {
     }
 }
 
-/// 4: B is none of the letters of this edition.
+/// 4: in 2024 B is none of the letters.
 fn letters(list: &mut List) {
-    for letter in RECORDS {
-        list.in_line(4, letter, "bad letter in place", |rng, line| loop {
+    let known = records(list.edition);
+    for letter in known.iter().copied() {
+        list.in_line(4, letter, "bad letter in place", move |rng, line| loop {
             let any = printable(rng);
             let c = rng.pick(&[any, any, b'B', b'b', b' ', b'#']);
-            if !RECORDS.contains(&c.to_ascii_uppercase()) {
+            if !known.contains(&c.to_ascii_uppercase()) {
                 line.put(1, &[c]);
                 return Some(1);
             }

@@ -9,6 +9,7 @@ use crate::scripts::{Scene, Script};
 use crate::wham::breaks::{self, Break};
 use crate::wham::draft::Draft;
 use crate::wham::valid::{valid, Size};
+use crate::wham::Edition;
 use std::rc::Rc;
 
 /// No more than is lent.
@@ -18,12 +19,12 @@ const SIZE: Size = Size {
     deposits: 2,
 };
 
-pub fn add(scenes: &mut Vec<Scene>) {
-    let breaks = Rc::new(breaks::all());
+pub fn add(edition: Edition, scenes: &mut Vec<Scene>) {
+    let breaks = Rc::new(breaks::all(edition));
     for which in 0..breaks.len() {
         let breaks = Rc::clone(&breaks);
         scenes.push(Box::new(move |rng, script| {
-            if let Some((draft, refusal)) = broken(rng, &breaks[which]) {
+            if let Some((draft, refusal)) = broken(edition, rng, &breaks[which]) {
                 scene(rng, script, &draft, refusal);
             }
         }));
@@ -31,9 +32,9 @@ pub fn add(scenes: &mut Vec<Scene>) {
 }
 
 /// A valid file broken so; none if what breaks is the quarter held, which no line has.
-pub fn broken(rng: &mut Rng, one: &Break) -> Option<(Draft, Refusal)> {
+pub fn broken(edition: Edition, rng: &mut Rng, one: &Break) -> Option<(Draft, Refusal)> {
     loop {
-        let mut draft = valid(rng, SIZE);
+        let mut draft = valid(edition, rng, SIZE);
         match one.apply(rng, &mut draft) {
             Some(refusal) if refusal.number == 70 => return None,
             Some(refusal) => return Some((draft, refusal)),

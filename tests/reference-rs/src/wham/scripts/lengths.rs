@@ -13,14 +13,16 @@ use crate::wham::draft::{record_e, record_f, ACCOUNT};
 use crate::wham::walk::unfit;
 use crate::wham::Edition;
 
-pub fn add(scenes: &mut Vec<Scene>) {
-    each_phase(scenes);
-    full_lists(scenes);
-    whole_files(scenes);
-    beyond_each_phase(scenes);
-    scenes.push(Box::new(|_, script| employers_beyond(script)));
+pub fn add(edition: Edition, scenes: &mut Vec<Scene>) {
+    each_phase(edition, scenes);
+    full_lists(edition, scenes);
+    whole_files(edition, scenes);
+    beyond_each_phase(edition, scenes);
+    scenes.push(Box::new(move |_, script| employers_beyond(edition, script)));
     for _ in 0..12 {
-        scenes.push(Box::new(other_lengths));
+        scenes.push(Box::new(move |rng, script| {
+            other_lengths(edition, rng, script)
+        }));
     }
 }
 
@@ -29,8 +31,8 @@ fn room(ids: usize, employers: usize) -> Room {
 }
 
 /// The state uses four entries, or three, in the phases that have any, and no id.
-fn each_phase(scenes: &mut Vec<Scene>) {
-    for moment in in_each_phase() {
+fn each_phase(edition: Edition, scenes: &mut Vec<Scene>) {
+    for moment in in_each_phase(edition) {
         let rooms = [
             (0, 0),
             (0, 1),
@@ -46,23 +48,23 @@ fn each_phase(scenes: &mut Vec<Scene>) {
             let moment = moment.clone();
             scenes.push(Box::new(move |rng, script| {
                 script.lent = room(ids, employers);
-                line_then_end(rng, script, &moment);
+                line_then_end(edition, rng, script, &moment);
             }));
         }
     }
 }
 
 /// An E that takes the last entry and one that finds none, whatever stands in the list.
-fn full_lists(scenes: &mut Vec<Scene>) {
+fn full_lists(edition: Edition, scenes: &mut Vec<Scene>) {
     for employers in 2..=5 {
         for fein in [5, 0, 77] {
             scenes.push(Box::new(move |_, script| {
-                let moment = after_t();
+                let moment = after_t(edition);
                 script.lent = room(0, employers);
                 script.set(&moment);
                 let quarter = moment.state.quarter_of_a;
                 read(script, &record_e(quarter, fein, false, ACCOUNT));
-                // The next closes it, if it was taken.
+                // The next closes it in 2024, if it was taken.
                 read(script, &record_e(quarter, fein, true, ACCOUNT));
             }));
         }
@@ -70,7 +72,7 @@ fn full_lists(scenes: &mut Vec<Scene>) {
 }
 
 /// A whole file that needs four entries.
-fn whole_files(scenes: &mut Vec<Scene>) {
+fn whole_files(edition: Edition, scenes: &mut Vec<Scene>) {
     for (ids, employers) in [
         (0, 0),
         (1, 1),
@@ -84,7 +86,7 @@ fn whole_files(scenes: &mut Vec<Scene>) {
         scenes.push(Box::new(move |rng, script| {
             script.lent = room(ids, employers);
             script.set_tables(&content());
-            whole(script, HELD, &base().file());
+            whole(edition, script, HELD, &base(edition).file());
             script.end();
             script.line(short(rng));
         }));
@@ -92,14 +94,14 @@ fn whole_files(scenes: &mut Vec<Scene>) {
 }
 
 /// 65,535 employers, one more and two more.
-fn beyond_each_phase(scenes: &mut Vec<Scene>) {
-    for moment in in_each_phase() {
+fn beyond_each_phase(edition: Edition, scenes: &mut Vec<Scene>) {
+    for moment in in_each_phase(edition) {
         scenes.push(Box::new(move |rng, script| {
             script.set(&moment);
             for more in 0..3 {
                 let mut state = moment.state;
                 state.employers = MANY_EMPLOYERS + more;
-                script.beyond(more, &fitting(rng, &state));
+                script.beyond(more, &fitting(edition, rng, &state));
             }
             script.beyond(rng.below(10), short(rng));
         }));
@@ -107,8 +109,8 @@ fn beyond_each_phase(scenes: &mut Vec<Scene>) {
 }
 
 /// Each record that may come after so many employers.
-fn employers_beyond(script: &mut Script) {
-    let moment = after_t();
+fn employers_beyond(edition: Edition, script: &mut Script) {
+    let moment = after_t(edition);
     let state = &moment.state;
     script.set(&moment);
     for more in 0..3 {
@@ -126,18 +128,18 @@ fn employers_beyond(script: &mut Script) {
 
 /// The calls of one walk, each lent tables of another length. Where the list is too short for the
 /// state the walk stands still, and goes on when it is long enough.
-fn other_lengths(rng: &mut Rng, script: &mut Script) {
-    let draft = base();
+fn other_lengths(edition: Edition, rng: &mut Rng, script: &mut Script) {
+    let draft = base(edition);
     let mut lines = draft.lines.iter();
     script.lent = room(rng.index(41), rng.index(13));
-    open(script, HELD);
-    for _ in 0..24 {
+    open(edition, script, HELD);
+    for _ in 0..draft.lines.len() + 7 {
         script.lent = room(rng.pick(&[0, 1, 40]), rng.pick(&[0, 1, 2, 3, 4, 4, 5, 12]));
         let state = script.state();
         if matches!(state.standing, Standing::Refused(_)) {
             break;
         }
-        if unfit(Edition::Of2024, &state, script.lent.employers) {
+        if unfit(edition, &state, script.lent.employers) {
             script.line(short(rng));
             script.end();
             continue;

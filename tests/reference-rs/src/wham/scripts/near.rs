@@ -7,21 +7,35 @@ use crate::format::Format;
 use crate::rng::Rng;
 use crate::walk::{OpenE, Standing, State};
 use crate::wham::draft::MOST_OF_S;
+use crate::wham::walk::most_lines;
 use crate::wham::write::{TOO_MUCH_FOR_F, TOO_MUCH_FOR_T};
+use crate::wham::Edition;
 
 /// Alters one or two numbers.
-pub fn alter(rng: &mut Rng, state: &mut State) {
+pub fn alter(edition: Edition, rng: &mut Rng, state: &mut State) {
     for _ in 0..rng.between(1, 2) {
         match rng.below(12) {
-            0..=2 => alter_standing_or_quarter(rng, state),
-            3..=6 => alter_file(rng, state),
+            _ if edition.has_b() && rng.one_in(6) => alter_noted(rng, state),
+            0..=2 => alter_standing_or_quarter(edition, rng, state),
+            3..=6 => alter_file(edition, rng, state),
             7..=10 => alter_open_e(rng, state),
             _ => alter_unused(rng, state),
         }
     }
 }
 
-/// The format, and what this one does not use.
+/// What the edition with B records uses, and the other one does not.
+fn alter_noted(rng: &mut Rng, state: &mut State) {
+    let open = &mut state.open;
+    match rng.below(6) {
+        0..=2 => open.more.noted = !open.more.noted,
+        3 => state.more.notes = near(rng, state.more.notes, 100_000),
+        4 => (open.fein, open.more.account, open.more.noted) = (0, [0, 0], true),
+        _ => state.format = Format::WHAM_2024,
+    }
+}
+
+/// The format, and what this one does not use; in 2020 a note and the notes too, which it does.
 fn alter_unused(rng: &mut Rng, state: &mut State) {
     let any = rng.next() >> rng.below(64);
     match rng.below(8) {
@@ -35,19 +49,22 @@ fn alter_unused(rng: &mut Rng, state: &mut State) {
     }
 }
 
-fn alter_standing_or_quarter(rng: &mut Rng, state: &mut State) {
+fn alter_standing_or_quarter(edition: Edition, rng: &mut Rng, state: &mut State) {
     match rng.below(4) {
-        0 => state.standing = any_standing(rng),
+        0 => state.standing = any_standing(edition, rng),
         1 => state.held = near_quarter(rng, state.held),
         2 => state.quarter_of_a = near_quarter(rng, state.quarter_of_a),
         _ => state.quarter_of_a = near_quarter(rng, state.held),
     }
 }
 
-fn alter_file(rng: &mut Rng, state: &mut State) {
+fn alter_file(edition: Edition, rng: &mut Rng, state: &mut State) {
     let most = state.s.min(100_000) * MOST_OF_S;
     match rng.below(8) {
-        0 => state.lines_read = near(rng, state.lines_read, 331_074).min(u32::MAX.into()),
+        0 => {
+            let lines = near(rng, state.lines_read, most_lines(edition));
+            state.lines_read = lines.min(u32::MAX.into());
+        }
         1 => state.employers = near(rng, state.employers, 4),
         2 => state.s = near(rng, state.s, 100_000),
         3 => state.s = near(rng, state.s, state.open.s),
@@ -103,11 +120,15 @@ fn near(rng: &mut Rng, own: u64, bound: u64) -> u64 {
     }
 }
 
-fn any_standing(rng: &mut Rng) -> Standing {
+fn any_standing(edition: Edition, rng: &mut Rng) -> Standing {
+    let numbers: &[u8] = match edition {
+        Edition::Of2024 => &[1, 30, 43, 44, 61, 70, 73, 91],
+        Edition::Of2020 => &[1, 30, 43, 44, 61, 70, 73, 91, 100, 104],
+    };
     match rng.below(8) {
         0 => Standing::Accepted,
         1 => {
-            let number = rng.pick(&[1, 30, 43, 44, 61, 70, 73, 91]);
+            let number = rng.pick(numbers);
             Standing::Refused(Refusal::new(number, rng.below(9), rng.below(300)))
         }
         _ => Standing::Among(rng.pick(&PHASES)),
@@ -141,15 +162,17 @@ mod tests {
     /// Every state comes back from its words, and both kinds come often.
     #[test]
     fn states_near_fit_ones() {
-        let moments = in_each_phase();
-        let mut times_unfit = 0;
-        for k in 0..10_000 {
-            let mut rng = Rng::of(23, 0, k);
-            let mut state = moments[rng.index(moments.len())].state;
-            alter(&mut rng, &mut state);
-            assert_eq!(state_in(&words_of(&state)), state);
-            times_unfit += u64::from(unfit(&state, 4, 5));
+        for edition in Edition::BOTH {
+            let moments = in_each_phase(edition);
+            let mut times_unfit = 0;
+            for k in 0..10_000 {
+                let mut rng = Rng::of(23, 0, k);
+                let mut state = moments[rng.index(moments.len())].state;
+                alter(edition, &mut rng, &mut state);
+                assert_eq!(state_in(&words_of(&state)), state);
+                times_unfit += u64::from(unfit(&state, 4, 5));
+            }
+            assert!((2_000..8_000).contains(&times_unfit), "{times_unfit}");
         }
-        assert!((2_000..8_000).contains(&times_unfit), "{times_unfit}");
     }
 }

@@ -1,33 +1,41 @@
 //! T and F with counts and sums that are right, one off, or more than their columns hold; the last
-//! S and R of a file and one more; the last line; the account.
+//! S, R and B of a file and one more; the last line; the account.
 
 use super::lines::account_of;
-use super::moments::{after_t, e_open, e_open_saying_0, LENT};
+use super::moments::{after_t, before_f, e_open, in_each_phase, LENT};
 use super::read;
+use crate::calendar::Quarter;
 use crate::scripts::{Scene, Script};
 use crate::walk::State;
 use crate::wham::draft::*;
+use crate::wham::walk::most_lines;
+use crate::wham::Edition;
 
-pub fn add(scenes: &mut Vec<Scene>) {
-    totals_of_t(scenes);
-    totals_of_f(scenes);
-    scenes.push(Box::new(|_, script| last_s(script)));
-    scenes.push(Box::new(|_, script| last_r(script)));
-    scenes.push(Box::new(|_, script| last_out_of_place(script)));
-    scenes.push(Box::new(|_, script| last_line(script)));
-    scenes.push(Box::new(|_, script| accounts(script)));
-    scenes.push(Box::new(|_, script| months(script)));
+pub fn add(edition: Edition, scenes: &mut Vec<Scene>) {
+    totals_of_t(edition, scenes);
+    totals_of_f(edition, scenes);
+    for scene in [
+        last_s,
+        last_of_other_letters,
+        last_out_of_place,
+        last_line,
+        accounts,
+        months,
+    ] {
+        scenes.push(Box::new(move |_, script| scene(edition, script)));
+    }
 }
 
 /// Sets `e_open` with these changes.
-fn set_e_open(script: &mut Script, change: impl Fn(&mut State)) {
+fn set_e_open(edition: Edition, script: &mut Script, change: impl Fn(&mut State)) {
     script.lent = LENT;
-    let mut moment = e_open();
+    let mut moment = e_open(edition);
     change(&mut moment.state);
     script.set(&moment);
 }
 
-/// What the open E has, and what T tells: S records, original and correct cents each.
+/// What the open E has, and what T tells: S records, original and correct cents each. In 2020 T tells
+/// the correct ones, and any total of all employees.
 const OF_T: [([u64; 3], [u64; 3]); 16] = [
     ([3, 350, 358], [3, 350, 358]),
     ([3, 350, 358], [2, 350, 358]),
@@ -56,18 +64,22 @@ const OF_T: [([u64; 3], [u64; 3]); 16] = [
     ),
 ];
 
-fn totals_of_t(scenes: &mut Vec<Scene>) {
+fn totals_of_t(edition: Edition, scenes: &mut Vec<Scene>) {
     for ([s, original, correct], told) in OF_T {
+        let amounts = match edition {
+            Edition::Of2024 => (told[1], told[2]),
+            Edition::Of2020 => (told[2], told[1]),
+        };
         for says_s_follow in [true, false] {
             for payments in [0, 400] {
                 scenes.push(Box::new(move |_, script| {
-                    set_e_open(script, |state| {
+                    set_e_open(edition, script, |state| {
                         state.s = 100_000;
                         (state.open.s, state.open.cents) = (s, correct);
                         state.open.more.second = original;
                         state.open.says_s_follow = says_s_follow;
                     });
-                    read(script, &record_t(told[0], payments, (told[1], told[2])));
+                    read(script, &record_t(told[0], payments, amounts));
                     script.end();
                 }));
             }
@@ -96,10 +108,10 @@ const OF_F: [([u64; 3], [u64; 3]); 11] = [
     ),
 ];
 
-/// After a T, and with an E open that says 0, which needs an employer.
-fn totals_of_f(scenes: &mut Vec<Scene>) {
+/// After a T, and in 2024 with an E open that says 0, which needs an employer.
+fn totals_of_f(edition: Edition, scenes: &mut Vec<Scene>) {
     for ([s, employers, cents], told) in OF_F {
-        for mut moment in [after_t(), e_open_saying_0()] {
+        for mut moment in before_f(edition) {
             moment.state.s = s;
             moment.state.employers = employers;
             (moment.state.cents, moment.state.more.second) = (cents, 0);
@@ -120,9 +132,9 @@ fn s_line(script: &Script, id: u64, amounts: (u64, u64)) -> Vec<u8> {
 }
 
 /// The 100,000th S with all sums at their greatest; one more is 61, again and again.
-fn last_s(script: &mut Script) {
+fn last_s(edition: Edition, script: &mut Script) {
     let before = 99_999 * MOST_OF_S;
-    set_e_open(script, |state| {
+    set_e_open(edition, script, |state| {
         (state.s, state.cents, state.more.second) = (99_999, before, before);
         (state.open.s, state.open.cents, state.open.more.second) = (99_999, before, before);
     });
@@ -135,65 +147,112 @@ fn last_s(script: &mut Script) {
     script.line(b"");
 }
 
-/// The same of R, whatever the S records are; one more S passes then.
-fn last_r(script: &mut Script) {
-    for (others, number) in [(99_999, 0), (100_000, 61), (100_001, 61), (u64::MAX, 61)] {
-        set_e_open(script, |state| state.more.others = others);
+/// The same of R, and in 2020 of B, whatever the S records are; one more S passes then.
+fn last_of_other_letters(edition: Edition, script: &mut Script) {
+    let counts = [(99_999, 0), (100_000, 61), (100_001, 61), (u64::MAX, 61)];
+    for (others, number) in counts {
+        set_e_open(edition, script, |state| state.more.others = others);
         let quarter = script.state().quarter_of_a;
         read(script, &record_r(quarter, 5));
         assert_eq!(script.answered, number);
         script.end();
     }
-    set_e_open(script, |state| state.more.others = 100_000);
+    set_e_open(edition, script, |state| state.more.others = 100_000);
     let line = s_line(script, 5, (1, 2));
     read(script, &line);
-    set_e_open(script, |state| (state.s, state.more.others) = (100_000, 7));
+    set_e_open(edition, script, |state| {
+        (state.s, state.more.others) = (100_000, 7)
+    });
     let quarter = script.state().quarter_of_a;
     read(script, &record_r(quarter, 5));
+    if edition.has_b() {
+        for (notes, number) in counts {
+            last_b(script, notes, number);
+        }
+    }
+}
+
+/// A B after A, under an E and after T, when the file has so many; then one more of each other letter
+/// that may stand there.
+fn last_b(script: &mut Script, notes: u64, number: u8) {
+    let edition = Edition::Of2020;
+    for (phase, letter) in [(1, b'E'), (2, b'S'), (2, b'R'), (3, b'R'), (4, b'E')] {
+        let mut moment = in_each_phase(edition)[phase].clone();
+        moment.state.more.notes = notes;
+        let (open, quarter) = (moment.state.open, moment.state.quarter_of_a);
+        let account = account_of(&moment.state);
+        let b = record_b(quarter.year, open.fein, &account);
+        script.lent = LENT;
+        script.set(&moment);
+        read(script, &b);
+        assert_eq!(script.answered, number);
+        script.set(&moment);
+        read(
+            script,
+            &match letter {
+                b'E' => record_e(Quarter::new(quarter.year, 3), 5, true, ACCOUNT),
+                b'S' => record_s(quarter, 5, (1, 2), &account),
+                _ => record_r(quarter, 3),
+            },
+        );
+        assert_eq!(script.answered, 0, "it is no B");
+    }
 }
 
 /// Place comes before 61, and fields after it.
-fn last_out_of_place(script: &mut Script) {
-    set_e_open(script, |state| {
+fn last_out_of_place(edition: Edition, script: &mut Script) {
+    set_e_open(edition, script, |state| {
         state.s = 100_000;
         state.open.says_s_follow = false;
     });
     let line = s_line(script, 5, (1, 1));
     read(script, &line);
     script.lent = LENT;
-    let mut moment = after_t();
+    let mut moment = after_t(edition);
     (moment.state.s, moment.state.more.others) = (100_000, 100_000);
-    for letter in *b"SR" {
+    moment.state.more.notes = if edition.has_b() { 100_000 } else { 0 };
+    for letter in edition.under_e() {
         script.set(&moment);
-        read(script, &[&[letter][..], &[b'~'; 274][..]].concat());
+        read(script, &[&[*letter][..], &[b'~'; 274][..]].concat());
     }
-    for letter in *b"SR" {
-        set_e_open(script, |state| {
-            (state.s, state.more.others) = (100_000, 100_000)
+    for letter in edition.under_e() {
+        set_e_open(edition, script, |state| {
+            (state.s, state.more.others) = (100_000, 100_000);
+            state.more.notes = if edition.has_b() { 100_000 } else { 0 };
         });
-        read(script, &[&[letter][..], &[b'~'; 274][..]].concat());
+        read(script, &[&[*letter][..], &[b'~'; 274][..]].concat());
         assert_eq!(script.answered, 61);
+    }
+    if edition.has_b() {
+        // After F it is out of place, before A too.
+        for (phase, number) in [(0, 10), (5, 100)] {
+            let mut moment = in_each_phase(edition)[phase].clone();
+            moment.state.more.notes = 100_000;
+            script.set(&moment);
+            read(script, &[b"B", &[b'~'; 274][..]].concat());
+            assert_eq!(script.answered, number);
+        }
     }
 }
 
 /// The last line that is fit to be read leaves a state that is not; a refusal does not count.
-fn last_line(script: &mut Script) {
-    for lines in [331_073, 331_074] {
-        set_e_open(script, |state| state.lines_read = lines);
+fn last_line(edition: Edition, script: &mut Script) {
+    for lines in [most_lines(edition) - 1, most_lines(edition)] {
+        set_e_open(edition, script, |state| state.lines_read = lines);
         let quarter = script.state().quarter_of_a;
         for _ in 0..3 {
             read(script, &record_r(quarter, 5));
         }
         script.end();
-        set_e_open(script, |state| state.lines_read = lines);
+        set_e_open(edition, script, |state| state.lines_read = lines);
         script.line(b"R\n");
         script.end();
     }
 }
 
 /// The account in the state's words, altered in one of its characters or beyond them.
-fn accounts(script: &mut Script) {
-    let [head, tail] = e_open().state.open.more.account;
+fn accounts(edition: Edition, script: &mut Script) {
+    let [head, tail] = e_open(edition).state.open.more.account;
     for account in [
         [head, tail],
         [head + 1, tail],
@@ -207,15 +266,13 @@ fn accounts(script: &mut Script) {
         [0, 0],
         [u64::MAX, u64::MAX],
     ] {
-        set_e_open(script, |state| state.open.more.account = account);
-        read(
-            script,
-            &record_s(e_open().state.quarter_of_a, 5, (1, 2), ACCOUNT),
-        );
+        set_e_open(edition, script, |state| state.open.more.account = account);
+        let quarter = e_open(edition).state.quarter_of_a;
+        read(script, &record_s(quarter, 5, (1, 2), ACCOUNT));
     }
-    // Letters are told in capitals.
-    script.set(&after_t());
-    let quarter = after_t().state.quarter_of_a;
+    // Letters are told in capitals; in 2020 too, where no B that could agree with them follows.
+    script.set(&after_t(edition));
+    let quarter = after_t(edition).state.quarter_of_a;
     read(script, &record_e(quarter, 5, true, b"abcdefghijk"));
     for account in [
         b"ABCDEFGHIJK",
@@ -228,14 +285,14 @@ fn accounts(script: &mut Script) {
 }
 
 /// The month of the state's words, before the first E and after it.
-fn months(script: &mut Script) {
+fn months(edition: Edition, script: &mut Script) {
     for month in [3, 6, 9, 12] {
         for phase in [0, 1, 4] {
-            let mut moment = super::moments::in_each_phase()[phase].clone();
+            let mut moment = in_each_phase(edition)[phase].clone();
             moment.state.quarter_of_a.month = month;
             script.lent = LENT;
             script.set(&moment);
-            let quarter = crate::calendar::Quarter::new(2026, 3);
+            let quarter = Quarter::new(2026, 3);
             match phase {
                 0 => read(script, &record_a(2026, 1, &AUGUSTA)),
                 _ => read(script, &record_e(quarter, 1, false, ACCOUNT)),

@@ -8,14 +8,16 @@ use crate::format::Format;
 use crate::scripts::Scene;
 use crate::walk::{MoreOfE, MoreOfFile, OpenE, State};
 use crate::wham::draft::MOST_OF_S;
+use crate::wham::walk::most_lines;
+use crate::wham::Edition;
 
 type Alter = Box<dyn Fn(&mut State)>;
 
 const MOST_S: u64 = 100_000;
 
-pub fn add(scenes: &mut Vec<Scene>) {
-    for alter in alterations() {
-        for moment in in_each_phase() {
+pub fn add(edition: Edition, scenes: &mut Vec<Scene>) {
+    for alter in alterations(edition) {
+        for moment in in_each_phase(edition) {
             let mut altered = moment;
             alter(&mut altered.state);
             scenes.push(Box::new(move |rng, script| {
@@ -25,22 +27,25 @@ pub fn add(scenes: &mut Vec<Scene>) {
                 if rng.one_in(3) {
                     some_frames(rng, script);
                 }
-                line_then_end(rng, script, &altered);
+                line_then_end(edition, rng, script, &altered);
             }));
         }
     }
 }
 
-fn alterations() -> Vec<Alter> {
+fn alterations(edition: Edition) -> Vec<Alter> {
     let mut list: Vec<Alter> = vec![Box::new(|_| {})];
-    counts(&mut list);
+    counts(edition, &mut list);
     sums_of_file(&mut list);
     sums_of_open_e(&mut list);
     open_e(&mut list);
     quarters_held(&mut list);
     quarters_filed(&mut list);
-    untested(&mut list);
+    untested(edition, &mut list);
     unread(&mut list);
+    if edition.has_b() {
+        noted(&mut list);
+    }
     list
 }
 
@@ -53,7 +58,7 @@ fn around(bound: u64) -> [u64; 3] {
 }
 
 /// Points 1, 2, 4 and 5.
-fn counts(list: &mut Vec<Alter>) {
+fn counts(edition: Edition, list: &mut Vec<Alter>) {
     for employers in around(LENT.employers as u64).into_iter().chain([0, 1]) {
         push(list, move |state| state.employers = employers);
     }
@@ -67,10 +72,12 @@ fn counts(list: &mut Vec<Alter>) {
         });
     }
     // The bounds of the other formats are none here.
-    for lines in around(331_074)
-        .into_iter()
-        .chain([231_075, 431_074, u64::from(u32::MAX)])
-    {
+    let others = match edition {
+        Edition::Of2024 => [231_075, 431_074],
+        Edition::Of2020 => [231_075, 331_075],
+    };
+    let bounds = around(most_lines(edition)).into_iter().chain(others);
+    for lines in bounds.chain([u64::from(u32::MAX)]) {
         push(list, move |state| state.lines_read = lines);
     }
 }
@@ -191,7 +198,7 @@ fn quarters_filed(list: &mut Vec<Alter>) {
 }
 
 /// What counts in some walks only, or otherwise in them.
-fn untested(list: &mut Vec<Alter>) {
+fn untested(edition: Edition, list: &mut Vec<Alter>) {
     push(list, |state| {
         state.open = OpenE {
             fein: u64::MAX,
@@ -205,16 +212,32 @@ fn untested(list: &mut Vec<Alter>) {
         push(list, move |state| state.more.others = others);
     }
     // One sum may exceed the other, and the open E's the file's.
-    push(list, |state| {
+    push(list, move |state| {
         (state.s, state.cents, state.more.second) = (5, 0, 0);
         state.open = OpenE {
             s: 5,
             cents: 5 * MOST_OF_S,
-            ..e_open().state.open
+            ..e_open(edition).state.open
         };
     });
     push(list, |state| state.format = Format::Unknown);
     push(list, |state| state.format = Format::Pfml);
+}
+
+/// "has a B", the file's B records, and what a B that waits has told: 72 reads none of them.
+fn noted(list: &mut Vec<Alter>) {
+    push(list, |state| state.open.more.noted = !state.open.more.noted);
+    for notes in around(100_000) {
+        push(list, move |state| state.more.notes = notes);
+    }
+    for noted in [true, false] {
+        push(list, move |state| {
+            state.open.more.noted = noted;
+            state.open.more.account = [0, 0];
+            state.open.fein = 0;
+        });
+    }
+    push(list, |state| state.format = Format::WHAM_2024);
 }
 
 /// What is compared with nothing.
