@@ -4,7 +4,8 @@
  *
  * It is proved in Rattle (docs/PROVED.md): every call below returns, touches nothing but what it
  * is lent, and answers as written here, whatever numbers and bytes it is lent. Link libwage.a
- * (x86-64 Linux), which `rt lib`, in crates/wage, writes; of the C library it needs memcpy and memset.
+ * (x86-64 Linux), which `rt lib`, in crates/wage, writes;
+ * of the C library it needs memcpy and memmove and memset.
  *
  * What the caller owes. No proof reaches a caller in C, and nothing below is tested at run time:
  *   - each pointer is good for as many elements as the length after it says: to be read, and
@@ -12,9 +13,9 @@
  *   - it is aligned as its type is in C: 8 bytes for uint64_t and wage_employer, 4 for uint32_t,
  *     1 for bytes;
  *   - no two of the areas lent to one call overlap, one that is only read included;
- *   - the thread has WAGE_STACK_BYTES of stack: wage_whole needs the most of them, 37,000 as an
- *     older kit built it, for one table of fixed size, the other calls less than 4,096. No call is
- *     recursive, and none takes stack by the length of what it is lent.
+ *   - the thread has WAGE_STACK_BYTES of stack: wage_whole needs the most of them, less than
+ *     39,000, for one table of fixed size, the other calls less than 4,096. No call is recursive,
+ *     and none takes stack by the length of what it is lent.
  * With length 0 a pointer is not followed, and may be null. The library has no memory of its
  * own: between two calls the caller keeps everything, and calls from several threads at once are
  * fine as long as they share nothing that one of them writes. */

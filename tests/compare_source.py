@@ -287,11 +287,11 @@ def in_records(rows):
 
 def code_fields(text):
     """The rows of FIELDS; one that is a constant's name has its columns there."""
-    row = r"\[class::(\w+), (\d+), (\d+)\]"
-    named = {name: row for name, *row in re.findall(r"const (\w+): \[u16; 3\] = " + row, text)}
+    row = r"row!\((?:More\()?(\w+)\)?, (\d+), (\d+)\)"
+    named = {name: row for name, *row in re.findall(r"const (\w+): Field = " + row, text)}
     body = found(r"const FIELDS[^=]*= \[(.*?)\n\];", text, "FIELDS").group(1)
     rows = [named[name] if name else own for name, *own in re.findall(r"^    (?:(\w+)|%s),$" % row, body, re.M)]
-    return [(camel(c), int(a), int(b)) for c, a, b in rows]
+    return [(c, int(a), int(b)) for c, a, b in rows]
 
 
 def code_map(text):
@@ -326,10 +326,10 @@ def is_short_for(name, full):
 
 
 def code_reasons(text):
-    """Each reason's name with the number at the head of the comment above it, and with the number that number_of gives it."""
-    told = {name: int(n) for n, name in re.findall(r"// (\d+): [^\n]*\n(?:    // [^\n]*\n)*    (\w+),", text)}
-    given = {name: int(n) for name, n in re.findall(r"Reason::(\w+) => (\d+),", text)}
-    return told, given
+    """Each reason's name with the number that leads to it, and with the number that it has."""
+    back = {name: int(n) for n, name in re.findall(r"\b(\d+) => Reason::(\w+),", text)}
+    given = {name: int(n) for name, n in re.findall(r"(?m)^    (\w+) = (\d+),$", text)}
+    return back, given
 
 
 # ---- the comparisons
@@ -456,9 +456,9 @@ def compare_codes(read, source, paper):
 
 
 def compare_reasons(read, paper, later):
-    told, given = code_reasons(read("crates/reason/src/lib.rt"))
+    back, given = code_reasons(read("crates/reason/src/lib.rt"))
     same("the numbers of the reasons are those of document 01 and of the requests that are built", sorted({*paper_numbers(paper), *later}), sorted(given.values()))
-    same("each reason's comment has its number", sorted(given.items()), sorted(told.items()))
+    same("each reason's number leads to it", sorted(given.items()), sorted(back.items()))
     specs = re.findall(r"\nnumber_of (\w+) = (\d+)", read("crates/reason/specs/ReasonNumbers.antt"))
     same("the numbers in specs are those of the code", sorted(given.items()), sorted((name, int(n)) for name, n in specs))
 

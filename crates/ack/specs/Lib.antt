@@ -1,7 +1,6 @@
 pub mod Turns
 pub mod Answers
 pub mod Places
-pub mod Starts
 pub mod TurnLaws
 pub mod Program
 pub mod ProgramLaws

@@ -1,6 +1,6 @@
 // The acknowledgement of a wage file that is read piece by piece: its header, and one turn on the
 // bytes held.
-#![tactic(auto)]
+#![tactic(auto, unfolding(crate::specs::Turns::header_quarter, crate::specs::Turns::turn))]
 
 ghost use Rattle.std.specs.Prelude.{◌+◌, ◌≤◌, min, ◌||◌, ◌≡◌, leb, length, drop};
 ghost use Rattle.tables.specs.Room.{tables as tables_of};
@@ -8,7 +8,6 @@ ghost use Rattle.state.specs.Walks.{walk_of};
 ghost use Rattle.step.specs.Moves.{taken_in};
 ghost use Rattle.ack.specs.Turns.{longest_line, header_quarter, header_opening, lines_turn, turn as turn_of};
 ghost use Rattle.ack.specs.Answers.{progress_of, turned_by};
-ghost use Rattle.ack.specs.Starts.{starting, starting_of};
 ghost use Rattle.ack.specs.Places.{takes_line, place_behind};
 ghost use Rattle.ack.specs.declared.Progress.TheVariants.{Walking, Finished};
 ghost use Rattle.ack.specs.Keep.{kept};
@@ -16,7 +15,6 @@ ghost use Rattle.ack.specs.Keep.{kept};
 use calendar::Quarter;
 use edits::Opening;
 use edits::format::Format;
-use number::Number;
 use state::State;
 use step::Reply;
 use tables::Employer;
@@ -37,19 +35,18 @@ pub struct Turned {
     pub progress: Progress,
 }
 
+// The bytes of a header.
+const HEADER: usize = 7;
+
 // The last closed quarter that the input begins with: six digits YYYYMM and LF. What is no such
 // header is no quarter, which the opening refuses with 70.
 fn header_quarter(bytes: &[u8]) -> Quarter
     ensures { result ≡ header_quarter bytes.now }
 {
-    let n = number::read_number(bytes, 1, 6);
-    let Number::Value(digits) = n else {
+    let Ok(digits) = number::read_number(bytes, 1, 6) else {
         return state::no_quarter();
     };
-    if bytes.len() < 7 {
-        return state::no_quarter();
-    }
-    if bytes[6] != b'\n' {
+    if bytes.len() < HEADER || bytes[HEADER - 1] != b'\n' {
         return state::no_quarter();
     }
     Quarter {
@@ -78,19 +75,13 @@ const LONGEST_LINE: usize = 514;
 fn is_whole(ended: bool, held: usize) -> bool
     ensures { result ≡ (ended || leb longest_line held) }
 {
-    if ended {
-        return true;
-    }
-    LONGEST_LINE <= held
+    ended || LONGEST_LINE <= held
 }
 
 fn has_header(ended: bool, held: usize) -> bool
     ensures { result ≡ (ended || leb 7 held) }
 {
-    if ended {
-        return true;
-    }
-    7 <= held
+    ended || HEADER <= held
 }
 
 // A place in the bytes held. `last`: after the lines from there on comes the end call, since no
@@ -104,10 +95,7 @@ struct Place {
 fn takes_line(here: Place, held: usize) -> bool
     ensures { result ≡ takes_line here held }
 {
-    if here.at < held {
-        return is_whole(here.last, held - here.at);
-    }
-    false
+    here.at < held && is_whole(here.last, held - here.at)
 }
 
 // Behind the bytes that a line took. After a refusal no other line is taken, so that is the end.
@@ -124,7 +112,7 @@ fn place_behind(here: Place, reply: Reply, held: usize) -> Place
     }
     Place {
         at: here.at + taken,
-        last: here.last,
+        ..here
     }
 }
 
@@ -142,7 +130,7 @@ fn walking(st: State, at: usize, held: usize) -> Turned
     ensures { result ≡ record { progress = Walking st; taken = min at held } }
 {
     Turned {
-        taken: tables::least(at, held),
+        taken: at.min(held),
         progress: Progress::Walking(st),
     }
 }
@@ -176,44 +164,8 @@ fn lines_turn(
     walking(st, here.at, bytes.len())
 }
 
-// How a turn starts: with the header, with the lines that a state awaits, or not at all, and then
-// with how many bytes taken.
-#[derive(Clone, Copy)]
-struct Start {
-    opens: bool,
-    walks: bool,
-    taken: usize,
-    state: State,
-}
-
-// The header is read as soon as its bytes are held, or no more will come. Where no walk is under
-// way the state is one that is not opened, which none reads.
-fn start_of(progress: Progress, ended: bool, held: usize) -> Start
-    ensures { starting_of result ≡ starting (progress_of progress) ended held }
-{
-    match progress {
-        Progress::Waiting => Start {
-            opens: has_header(ended, held),
-            walks: false,
-            taken: 0,
-            state: state::opened(state::no_opening()),
-        },
-        Progress::Walking(st) => Start {
-            opens: false,
-            walks: true,
-            taken: 0,
-            state: st,
-        },
-        Progress::Finished(st) => Start {
-            opens: false,
-            walks: false,
-            taken: held,
-            state: st,
-        },
-    }
-}
-
-// One turn on the bytes held, of an input in this format; `ended`: no more will come.
+// One turn on the bytes held, of an input in this format; `ended`: no more will come. The header is
+// read as soon as its bytes are held, or no more will come.
 pub fn turn(
     format: Format,
     progress: Progress,
@@ -224,17 +176,16 @@ pub fn turn(
 ) -> Turned
     ensures { (turned_by result bytes.now (tables_of ids.new list.new) ≡ turn_of format (progress_of progress) ended bytes.now (tables_of ids.old list.old)) × (result.taken ≤ length bytes.now) }
 {
-    let begun = start_of(progress, ended, bytes.len());
-    if begun.opens {
-        let opened = walk::open(header(format, bytes), ids, list);
-        return lines_turn(opened.state, bytes, 7, ended, ids, list);
-    }
-    if begun.walks {
-        return lines_turn(begun.state, bytes, 0, ended, ids, list);
-    }
-    Turned {
-        taken: begun.taken,
-        progress,
+    match progress {
+        Progress::Waiting => {
+            if !has_header(ended, bytes.len()) {
+                return Turned { taken: 0, progress };
+            }
+            let opened = walk::open(header(format, bytes), ids, list);
+            lines_turn(opened.state, bytes, HEADER, ended, ids, list)
+        }
+        Progress::Walking(st) => lines_turn(st, bytes, 0, ended, ids, list),
+        Progress::Finished(st) => finished(st, bytes.len()),
     }
 }
 
@@ -243,13 +194,10 @@ pub fn turn(
 pub fn keep(buf: &mut [u8], at: usize, end: usize) -> usize
     ensures { record { count = result; bytes = buf.new } ≡ kept at end buf.old }
 {
-    let stop = tables::least(end, buf.len());
-    let mut from = at;
-    let mut n = 0;
-    while from < stop {
-        buf[n] = buf[from];
-        from += 1;
-        n += 1;
+    let stop = end.min(buf.len());
+    if stop <= at {
+        return 0;
     }
-    n
+    buf.copy_within(at..stop, 0);
+    stop - at
 }

@@ -3,8 +3,8 @@
 #![tactic(auto)]
 
 use edits::format::Format;
-use program::Telling;
+use program::One;
 
 fn main(rt: HostRuntime) {
-    program::run(rt, Format::Pfml, Telling::One);
+    program::run(rt, One(Format::Pfml));
 }

@@ -3,8 +3,8 @@
 #![tactic(auto)]
 
 use edits::format::Format;
-use program::Telling;
+use program::One;
 
 fn main(rt: HostRuntime) {
-    program::run(rt, Format::Wham2024, Telling::One);
+    program::run(rt, One(Format::Wham2024));
 }

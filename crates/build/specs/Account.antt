@@ -10,7 +10,6 @@ use Rattle.number.specs.Numbers.{number_in}
 use Rattle.number.specs.NumberLaws.{wide_width, good_width, number_bad}
 use Rattle.text.specs.Put.{blanks}
 use Rattle.text.specs.Text.{all_blank}
-use Rattle.field.specs.ClassLaws.{class_again}
 use Rattle.field.specs.declared.class.Class.TheVariants.{AccountNumber}
 use Rattle.edits.specs.FieldRow.{row, first_in, last_in, no_row}
 use Rattle.pfml_fields.specs.Rows.{fields_of_E, account_number_of_E}
@@ -28,10 +27,11 @@ use Rattle.build.specs.BuiltRecords.{Built}
 use Rattle.build.specs.Values.{amount, none, no_account, form_of, Filled, form_in, fill_rows, fill_record, trimmed, text_in, amount_in, read_by, as_read}
 use Rattle.build.specs.declared.form.Form.{Form}
 use Rattle.build.specs.declared.form.Form.TheVariants.{Account}
+use Rattle.field.specs.declared.class.Field.{Field}
 
 -- ---- the value
 -- An account number's value is told by its entry alone.
-account_given : (letter : ℕ) (rows : List (List ℕ)) (values texts : List ℕ) (k : ℕ) → k < length rows → form_in (get_or rows k no_row) ≡ Account
+account_given : (letter : ℕ) (rows : List Field) (values texts : List ℕ) (k : ℕ) → k < length rows → form_in (get_or rows k no_row) ≡ Account
     → get_or (map (λ (field : Filled). field.value) (fill_rows letter rows values texts)) k none
     ≡ (if eqb (get_or values k 0) no_account then none else amount (get_or values k 0))
 unfolding fill_rows
@@ -122,7 +122,7 @@ pub account_in_E : 14 < length (rows_for (kind_of 69))
 account_in_E = rw (kind_of_E, fields_of_E) (omega arith)
 
 pub account_form : form_in (get_or (rows_for (kind_of 69)) 14 no_row) ≡ Account
-account_form = ap form_in account_row ∙ ap form_of (class_again AccountNumber)
+account_form = ap form_in account_row
 
 module _ (values texts out : List ℕ) (built : Built 69 values texts out) where
   -- "numbers, given and read as numbers"

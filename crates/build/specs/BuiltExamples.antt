@@ -13,7 +13,6 @@ use Rattle.number.specs.Numbers.{number_from, number_in, value_in, put_digits, p
 use Rattle.rules.specs.Rules.{period_in, flag_in, begins_with69, is_nine_zeros, may_be_filed}
 use Rattle.text.specs.Put.{blanks, put_text}
 use Rattle.text.specs.Text.{all_blank, is_indented, is_asked, reads_as, has_pattern}
-use Rattle.field.specs.Classes.{classes, class_of}
 use Rattle.pfml_fields.specs.Fields.{fields_of_e, fields_of_s}
 use Rattle.edits.specs.Edit.{first_broken}
 use Rattle.pfml.specs.Kinds.{kind_of}
@@ -39,7 +38,7 @@ unfolding
     is_permitted capital_of capitals is_blank is_digit is_letter is_of_name column_test every_column
     number_from number_in value_in put_digits put_number period_in flag_in begins_with69 is_nine_zeros may_be_filed
     put_text all_blank is_indented is_asked reads_as has_pattern
-    classes class_of fields_of_e fields_of_s first_broken kind_of put_all
+    fields_of_e fields_of_s first_broken kind_of put_all
     padded edits_of_all building fill_rows
 computed c = building c.letter c.values c.texts c.out
 

@@ -1,9 +1,8 @@
 -- Laws: texts without trailing blanks, and how many digits a number has.
-use Rattle.std.specs.Prelude.{ℕ, zero, suc, ◌+◌, ◌-◌, ◌/◌, ◌^◌, ◌<◌, ◌≤◌, min, Bool, true, false, List, [], ◌∷◌, ◌++◌, ◌⊎◌, ◌≡◌, refl, eqb, leb, ltb, length, get_or, take, drop}
-use Rattle.std.proofs.Common.{inl, inr, sym, ap, ◌∙◌, pow-suc, length-take, length-drop, length-append, take-suc, take_all, get_or-drop, ext_get_or, ltb-true, ltb-false, leb-true, leb-false, eqb-true, lt-ltb, le-ltb}
-use Rattle.std.proofs.Math.Nat.{pow-zero, zero-min, min-zero, suc-min-suc, min-eq_left, min-eq_right}
+use Rattle.std.specs.Prelude.{ℕ, zero, suc, ◌+◌, ◌-◌, ◌/◌, ◌^◌, ◌<◌, ◌≤◌, min, Bool, true, false, List, [], ◌∷◌, ◌++◌, ◌⊎◌, ◌≡◌, refl, leb, ltb, length, get_or, take, drop}
+use Rattle.std.proofs.Common.{inl, inr, sym, ap, ◌∙◌, pow-suc, length-take, length-drop, length-append, take-suc, take_all, get_or-drop, ext_get_or, ltb-true, ltb-false, leb-true, leb-false, lt-ltb, le-ltb}
+use Rattle.std.proofs.Math.Nat.{min-eq_left, min-eq_right}
 use native.Mathlib.Omega.{arith}
-use Rattle.std.proofs.lemmas.Bool.{eqb-false}
 use Rattle.chars.specs.Characters.{is_blank}
 use Rattle.chars.specs.CharacterLaws.{blank_is}
 use Rattle.text.specs.Put.{blanks, put_text}
@@ -44,13 +43,6 @@ trim_front (c ∷ text) = by (trimmed text) (trim_front text) (is_blank c) refl 
   by [] e true b = rw b
   by [] e false b = rw b
   by (d ∷ rest) e blank b = ap (λ (l : List ℕ). c ∷ l) e
-
--- As many characters as two numbers say, and as there are.
-pub take_least : (m n : ℕ) (text : List ℕ) → take (min (min m n) (length text)) text ≡ take m (take n text)
-take_least zero n text = rw (zero-min, zero-min)
-take_least (suc m) zero text = rw (min-zero, zero-min)
-take_least (suc m) (suc n) [] = rw min-zero
-take_least (suc m) (suc n) (c ∷ text) = rw (suc-min-suc, suc-min-suc) (ap (λ (l : List ℕ). c ∷ l) (take_least m n text))
 
 -- No text changes nothing.
 pub put_nothing : (line : List ℕ) (first : ℕ) → put_text line first [] ≡ line
@@ -99,9 +91,3 @@ room_more v n = by (ltb v (10 ^ suc n)) refl where
   by : (room : Bool) → ltb v (10 ^ suc n) ≡ room → ltb (v / 10) (10 ^ n) ≡ room
   by true e = let h = rw pow-suc at (ltb-true v (10 ^ suc n) e) in lt-ltb (v / 10) (10 ^ n) (omega arith)
   by false e = let h = rw pow-suc at (ltb-false v (10 ^ suc n) e) in le-ltb (v / 10) (10 ^ n) (omega arith)
-
-pub room_done : (v : ℕ) → eqb v 0 ≡ ltb v (10 ^ 0)
-room_done v = by (eqb v 0) refl where
-  by : (none : Bool) → eqb v 0 ≡ none → none ≡ ltb v (10 ^ 0)
-  by true e = sym (lt-ltb v (10 ^ 0) (rw pow-zero (omega (arith, eqb-true v 0 e))))
-  by false e = let some = eqb-false v 0 e in sym (le-ltb v (10 ^ 0) (rw pow-zero (omega arith)))

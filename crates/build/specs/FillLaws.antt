@@ -1,6 +1,6 @@
 -- Laws: filling rows with values, as a loop over the rows uses it.
 use Rattle.std.specs.Prelude.{ℕ, ◌+◌, ◌-◌, ◌<◌, ◌≤◌, min, Bool, true, false, List, [], ◌∷◌, map, ◌≡◌, refl, leb, length, drop}
-use Rattle.std.proofs.Common.{sym, ap, ◌∙◌, add-zero, arith, length-drop, drop_of_length-le, drop-cons, leb-true, leb-false}
+use Rattle.std.proofs.Common.{sym, ap, ◌∙◌, add-zero, arith, drop_of_length-le, drop-cons, leb-true, leb-false}
 use Rattle.std.proofs.Math.Nat.{min-eq_left, min-eq_right, min-le_right}
 use Rattle.std.proofs.Math.Numerals.{add-one}
 use Rattle.std.proofs.Math.ListN.{get_or}
@@ -12,10 +12,8 @@ use Rattle.chars.specs.CharacterLaws.{capitals_length, capitals_again}
 use Rattle.chars.specs.Columns.{width_of, every_column, unless}
 use Rattle.chars.specs.declared.columns.Allowed.TheVariants.{Permitted}
 use Rattle.laws.specs.Spelling.{bytes}
-use Rattle.field.specs.Classes.{class_of}
 use Rattle.field.specs.ClassTests.{class_test}
-use Rattle.field.specs.declared.class.Class.{Class}
-use Rattle.edits.specs.FieldRow.{class_in, first_in, last_in, no_row}
+use Rattle.edits.specs.FieldRow.{no_row}
 use Rattle.edits.specs.Edit.{first_broken}
 use Rattle.edits.specs.EditLaws.{first_none, first_cons, first_append}
 use Rattle.edits.specs.Tests.{own_rest, Wide}
@@ -24,9 +22,9 @@ use Rattle.edits.specs.declared.Landmarks.{Landmarks}
 use Rattle.text.specs.Put.{blanks}
 use Rattle.write.specs.PartLaws.{puts_keep, put_none, put_first}
 use Rattle.write.specs.Records.{put, put_all, record_of}
-use Rattle.build.specs.Building.{part_by, part_of, padded, fits_in, filled_edits, edits_of_all}
-use Rattle.build.specs.Values.{Filled, form_of, value_by, taken_by, form_in, filled, fill_rows}
-use Rattle.build.specs.declared.form.Form.{Form}
+use Rattle.build.specs.Building.{part_of, padded, fits_in, filled_edits, edits_of_all}
+use Rattle.build.specs.Values.{Filled, taken_by, form_in, filled, fill_rows}
+use Rattle.field.specs.declared.class.Field.{Field}
 
 -- ---- the texts that are left
 -- Past the end of the texts there is none.
@@ -39,37 +37,24 @@ drop_least text at n = by (leb n (length text - at)) refl where
       rw (min-eq_right {n = length text - at} {m = n} (omega arith), drop_of_length-le text {i = at + n} (omega arith), drop_of_length-le text {i = at + (length text - at)} (omega arith))
 
 -- ---- field k, when the texts before place `at` are taken, and how many characters it takes
-abbrev pub field_at : ℕ → List (List ℕ) → List ℕ → List ℕ → ℕ → ℕ → Filled
+abbrev pub field_at : ℕ → List Field → List ℕ → List ℕ → ℕ → ℕ → Filled
 field_at letter rows values texts k at = filled letter (get_or rows k no_row) (get_or values k 0) (drop at texts)
 
-abbrev pub taken_at : List (List ℕ) → List ℕ → List ℕ → ℕ → ℕ → ℕ
+abbrev pub taken_at : List Field → List ℕ → List ℕ → ℕ → ℕ → ℕ
 taken_at rows values texts k at = min (taken_by (form_in (get_or rows k no_row)) (get_or values k 0)) (length texts - at)
 
--- By its row, its entry and the texts that are left, as they were found.
-module _ (letter : ℕ) (rows : List (List ℕ)) (values texts : List ℕ) (k at : ℕ) (row : List ℕ) (entry : ℕ) (rest : List ℕ)
-    (is : row ≡ get_or rows k no_row) (given : entry ≡ get_or values k 0) (left : rest ≡ drop at texts) where
-  pub field_is : filled letter row entry rest ≡ field_at letter rows values texts k at
-  field_is = rw (is, given, left)
-
-  module _ (class : Class) (form : Form) (named : class ≡ class_of (class_in row)) (formed : form ≡ form_of class) where
-    pub taken_is : (taken : ℕ) → taken ≡ min (taken_by form entry) (length rest) → taken ≡ taken_at rows values texts k at
-    taken_is taken takes = takes ∙ rw (formed, named, is, given, left, length-drop)
-
-    pub put_is : (line : List ℕ) → put (part_by (first_in row) (last_in row) (value_by form letter entry rest)) line ≡ put (part_of (field_at letter rows values texts k at)) line
-    put_is line = rw (formed, named, is, given, left)
-
 -- They do not go past the end of the texts.
-pub taken_inside : (rows : List (List ℕ)) (values texts : List ℕ) (k at taken : ℕ) → at ≤ length texts → taken ≡ taken_at rows values texts k at
+pub taken_inside : (rows : List Field) (values texts : List ℕ) (k at taken : ℕ) → at ≤ length texts → taken ≡ taken_at rows values texts k at
     → at + taken ≤ length texts
 taken_inside rows values texts k at taken h takes =
     let within = min-le_right (taken_by (form_in (get_or rows k no_row)) (get_or values k 0)) (length texts - at) in
     omega arith
 
 -- The fields from number k on.
-abbrev pub fill_from : ℕ → List (List ℕ) → List ℕ → List ℕ → ℕ → ℕ → List Filled
+abbrev pub fill_from : ℕ → List Field → List ℕ → List ℕ → ℕ → ℕ → List Filled
 fill_from letter rows values texts k at = fill_rows letter (drop k rows) (drop k values) (drop at texts)
 
-module _ (letter : ℕ) (rows : List (List ℕ)) (values texts : List ℕ) (k at : ℕ) where
+module _ (letter : ℕ) (rows : List Field) (values texts : List ℕ) (k at : ℕ) where
   pub fill_done : length rows ≤ k → fill_from letter rows values texts k at ≡ []
   unfolding fill_rows
   fill_done h = rw (drop_of_length-le rows h)
@@ -113,31 +98,12 @@ module _ (landmarks : Landmarks) (line : List ℕ) where
   filled_parts field wide =
       rw (first_cons, first_cons, own_parts landmarks (bytes "PFML") field.class line field.first field.last wide)
 
-  -- As a test finds them, one after the other.
-  module _ (letter : ℕ) (row : List ℕ) (entry : ℕ) (texts : List ℕ) (class : Class) (form : Form) (width : ℕ) (fits : Bool)
-      (named : class ≡ class_of (class_in row)) (formed : form ≡ form_of class) (measured : width ≡ width_of (first_in row) (last_in row))
-      (tested : fits ≡ fits_in width (value_by form letter entry texts)) (wide : Wide (class_of (class_in row)) (first_in row) (last_in row)) where
-    fit_is : fits ≡ fits_in (width_of (first_in row) (last_in row)) (value_by (form_in row) letter entry texts)
-    fit_is = tested ∙ rw (measured, formed, named)
-
-    pub too_long : fits ≡ false → first_broken (filled_edits landmarks line (filled letter row entry texts)) ≡ broken (first_in row) 85
-    too_long e = filled_parts (filled letter row entry texts) wide ∙ rw (sym fit_is ∙ e)
-
-    pub bad_character : fits ≡ true → (column number : ℕ) → every_column Permitted line (first_in row) (last_in row) ≡ broken column number
-        → first_broken (filled_edits landmarks line (filled letter row entry texts)) ≡ broken column number
-    bad_character e column number hit = filled_parts (filled letter row entry texts) wide ∙ rw (sym fit_is ∙ e, hit)
-
-    pub own_then : fits ≡ true → every_column Permitted line (first_in row) (last_in row) ≡ fine
-        → first_broken (filled_edits landmarks line (filled letter row entry texts))
-        ≡ or_else (class_test class line (first_in row) (last_in row)) (own_rest landmarks (bytes "PFML") class line (first_in row) (last_in row))
-    own_then e passed = filled_parts (filled letter row entry texts) wide ∙ rw (sym fit_is ∙ e, passed, named)
-
   pub edits_done : (fields : List Filled) → fields ≡ [] → first_broken (edits_of_all landmarks line fields) ≡ fine
   unfolding edits_of_all
   edits_done fields e = rw e first_none
 
 -- ---- a loop's step: field k
-module _ (letter : ℕ) (rows : List (List ℕ)) (values texts : List ℕ) (k at : ℕ) (here : k < length rows) where
+module _ (letter : ℕ) (rows : List Field) (values texts : List ℕ) (k at : ℕ) (here : k < length rows) where
   pub put_next : (taken : ℕ) → taken ≡ taken_at rows values texts k at → (line after : List ℕ) → after ≡ put (part_of (field_at letter rows values texts k at)) line
       → put_all (map part_of (fill_from letter rows values texts k at)) line ≡ put_all (map part_of (fill_from letter rows values texts (k + 1) (at + taken))) after
   put_next taken takes line after puts =

@@ -6,7 +6,6 @@ use Rattle.laws.specs.Finding.{or_else}
 use Rattle.chars.specs.Characters.{is_blank, capitals}
 use Rattle.chars.specs.CharacterLaws.{capitals_already}
 use Rattle.chars.specs.ColumnLaws.{column_says, blank_column}
-use Rattle.field.specs.ClassLaws.{class_again}
 use Rattle.field.specs.declared.class.Class.TheVariants.{RecordLetter}
 use Rattle.edits.specs.FieldRow.{no_row}
 use Rattle.pfml_fields.specs.Rows.{LetterFirst, letters_first}
@@ -27,6 +26,7 @@ use Rattle.build.specs.StandLaws.{each_at}
 use Rattle.build.specs.Theorems.{given, built_slice, built_passes, field_read_back}
 use Rattle.build.specs.BuiltRecords.{Built}
 use Rattle.build.specs.Values.{none, words, value_by, Filled, form_in, fill_rows, trimmed, text_in, as_read}
+use Rattle.field.specs.declared.class.Field.{Field}
 
 -- ---- the letter
 known_named : (kind : Kind) → is_known kind ≡ true → Named kind
@@ -70,7 +70,7 @@ begins_with line letter low high e = by line (e ∙ rw (same, no_blank letter lo
   by (c ∷ l) e = one c (is_blank c) refl e
 
 -- ---- the first field
-first_value : (letter : ℕ) (rows : List (List ℕ)) (values texts : List ℕ) → 0 < length rows
+first_value : (letter : ℕ) (rows : List Field) (values texts : List ℕ) → 0 < length rows
     → get_or (map (λ (field : Filled). field.value) (fill_rows letter rows values texts)) 0 none ≡ value_by (form_in (get_or rows 0 no_row)) letter (get_or values 0 0) texts
 unfolding fill_rows
 first_value letter [] values texts h = absurd (not-suc-le-zero h)
@@ -91,7 +91,7 @@ module _ (letter : ℕ) (values texts out : List ℕ) (known : is_known (kind_of
       let named = known_named (kind_of letter) known in
       let is = letter_again letter named in
       let reads = field_read_back letter values texts out known built 0 first.0 ∙ ap as_read (first_value letter rows values texts first.0) in
-      let text : words (text_in line 1 1) ≡ words (trimmed (capitals (letter ∷ []))) = rw (first.1, class_again RecordLetter) at reads in
+      let text : words (text_in line 1 1) ≡ words (trimmed (capitals (letter ∷ []))) = rw first.1 at reads in
       ap kind_of (begins_with line letter (omega arith) (omega arith) (cc))
 
   -- Of its edits there only those of its place, and those of its fields that have a context, may be broken.

@@ -5,7 +5,6 @@ use Rattle.std.proofs.Common.{ap, ◌∙◌, arith}
 use Rattle.std.proofs.Math.ListN.{get_or}
 use Rattle.chars.specs.Characters.{capitals}
 use Rattle.chars.specs.Columns.{width_of}
-use Rattle.field.specs.Classes.{class_of}
 use Rattle.field.specs.declared.class.Class.{Class}
 use Rattle.field.specs.declared.class.Class.TheVariants.{Ignored, RecordLetter, BlankSpace, Numeric, AccountNumber, Flag, ThirdQuarterFlag, Period, RequiredText, OptionalText, PersonName, EntityCode, StateCode, ZipCode, ZipExtension, TaxYear, EmployerFein, IdentityNumber, CeaseDate, More}
 use Rattle.edits.specs.FieldRow.{class_in, first_in, last_in}
@@ -18,6 +17,7 @@ use Rattle.build.specs.BuiltRecords.{Each, Fits, ReadsBack}
 use Rattle.build.specs.Values.{amount, none, words, form_of, no_account, value_by, taken_by, Filled, form_in, fill_rows, amount_in, read_by, as_read}
 use Rattle.build.specs.declared.form.Form.{Form}
 use Rattle.build.specs.declared.form.Form.TheVariants.{Amount, Account, Words, Letter, Code, Blank}
+use Rattle.field.specs.declared.class.Field.{Field}
 
 -- The forms of numbers are those of "every field of type N".
 abbrev is_amount : Form → Bool
@@ -72,14 +72,14 @@ module _ (first last : ℕ) (final : List ℕ) (size : length final ≡ 290) whe
 
 -- ---- all fields
 module _ (letter : ℕ) (final : List ℕ) (size : length final ≡ 290) where
-  pub all_read : (rows : List (List ℕ)) (values texts : List ℕ) → AllReadable rows
+  pub all_read : (rows : List Field) (values texts : List ℕ) → AllReadable rows
       → Each (λ (field : Filled). Stands field.first field.last field.value final) (fill_rows letter rows values texts)
       → Each Fits (fill_rows letter rows values texts) → Each (ReadsBack (capitals final)) (fill_rows letter rows values texts)
   unfolding fill_rows
   all_read [] values texts readable stand fit = tt
   all_read (row ∷ rows) values texts readable stand fit =
       let entry = get_or values 0 0 in (
-        by_form (first_in row) (last_in row) final size (form_in row) letter entry texts (λ e. readable 0 (omega arith) (numbered (class_of (class_in row)) ∙ e))
+        by_form (first_in row) (last_in row) final size (form_in row) letter entry texts (λ e. readable 0 (omega arith) (numbered (class_in row) ∙ e))
             stand.0 fit.0,
         all_read rows (drop 1 values) (drop (taken_by (form_in row) entry) texts) (λ k h. readable (suc k) (omega arith)) stand.1 fit.1,
       )

@@ -3,7 +3,6 @@ use Rattle.std.specs.Prelude.{ℕ, ◌+◌, ◌<◌, ◌≤◌, true, List, [], 
 use Rattle.std.proofs.lemmas.Bool.{false≢true}
 use Rattle.std.proofs.Common.{sym, ◌∙◌, not-suc-le-zero, arith}
 use Rattle.laws.specs.Lists.{any_default}
-use Rattle.field.specs.Classes.{class_of}
 use Rattle.edits.specs.FieldRow.{class_in, first_in, last_in, no_row}
 use Rattle.pfml_fields.specs.Fields.{rows_of, fields, first_field}
 use Rattle.pfml_fields.specs.Fit.{is_number, number_width}
@@ -15,6 +14,7 @@ use Rattle.pfml.specs.Edits.{rows_for}
 use Rattle.pfml.specs.Kinds.{place_in_order, is_known}
 use Rattle.pfml.specs.declared.kind.Kind.{Kind}
 use Rattle.pfml.specs.declared.kind.Kind.TheVariants.{Transmitter, Employer, Employee, Total, Final, Unknown}
+use Rattle.field.specs.declared.class.Field.{Field}
 
 rows_at : (kind : Kind) → rows_for kind ≡ rows_of (place_in_order kind)
 rows_at Transmitter = sym rows_in_order.0
@@ -47,14 +47,16 @@ module _ (kind : Kind) (known : is_known kind ≡ true) where
     known_row : get_or fields (first_field (place_in_order kind) + k) no_row ≡ get_or (rows_for kind) k no_row
     known_row = rw (rows_at kind) (field_in_all (place_in_order kind) (known_place kind known) k in_rows)
 
+    known_inside : first_field (place_in_order kind) + k < 72
+    known_inside = rw all_fields_lem at (in_list (place_in_order kind) (known_place kind known) k in_rows)
+
     -- A number has at most 15 columns.
-    known_number : is_number (class_of (class_in (get_or (rows_for kind) k no_row))) ≡ true
+    known_number : is_number (class_in (get_or (rows_for kind) k no_row)) ≡ true
         → Readable (first_in (get_or (rows_for kind) k no_row)) (last_in (get_or (rows_for kind) k no_row))
     known_number number =
         let all = first_field (place_in_order kind) + k in
-        let here : all < 72 = rw all_fields_lem at (in_list (place_in_order kind) (known_place kind known) k in_rows) in
-        let same : get_or fields all [] ≡ get_or (rows_for kind) k no_row = any_default fields all [] no_row (rw all_fields_lem here) ∙ known_row in
-        let w = rw same at (number_width all here (rw same number)) in
+        let same : get_or fields all no_row ≡ get_or (rows_for kind) k no_row = known_row in
+        let w = rw same at (number_width all known_inside (rw same number)) in
         (omega arith, omega arith)
 
 -- ---- any record; one that is not known has no fields
@@ -87,10 +89,19 @@ row_there Total k h = known_row Total refl k h
 row_there Final k h = known_row Final refl k h
 row_there Unknown k h = absurd (not-suc-le-zero h)
 
+-- Every field of a record stands in the list of all fields.
+pub row_inside : (kind : Kind) (k : ℕ) → k < length (rows_for kind) → first_field (place_in_order kind) + k < 72
+row_inside Transmitter k h = known_inside Transmitter refl k h
+row_inside Employer k h = known_inside Employer refl k h
+row_inside Employee k h = known_inside Employee refl k h
+row_inside Total k h = known_inside Total refl k h
+row_inside Final k h = known_inside Final refl k h
+row_inside Unknown k h = absurd (not-suc-le-zero h)
+
 -- Every row of a number may be read as one.
-abbrev pub AllReadable : List (List ℕ) → Type 0
+abbrev pub AllReadable : List Field → Type 0
 AllReadable rows =
-    (k : ℕ) → k < length rows → is_number (class_of (class_in (get_or rows k no_row))) ≡ true → Readable (first_in (get_or rows k no_row)) (last_in (get_or rows k no_row))
+    (k : ℕ) → k < length rows → is_number (class_in (get_or rows k no_row)) ≡ true → Readable (first_in (get_or rows k no_row)) (last_in (get_or rows k no_row))
 
 pub rows_readable : (kind : Kind) → is_known kind ≡ true → AllReadable (rows_for kind)
 rows_readable kind known k h = known_number kind known k h

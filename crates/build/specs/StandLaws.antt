@@ -20,7 +20,6 @@ use Rattle.text.specs.Put.{blanks}
 use Rattle.text.specs.PutLaws.{put_text_elsewhere, put_text_at_lem}
 use Rattle.text.specs.Text.{all_blank}
 use Rattle.text.specs.TextLaws.{all_blank_says}
-use Rattle.field.specs.Classes.{class_of}
 use Rattle.edits.specs.FieldRow.{class_in, first_in, last_in, no_row}
 use Rattle.edits.specs.RowTests.{tiles}
 use Rattle.edits.specs.RowTestLaws.{tiles_first, row_within}
@@ -33,12 +32,13 @@ use Rattle.build.specs.RowLaws.{rows_tiled}
 use Rattle.build.specs.BuiltTextLaws.{trim_blanks}
 use Rattle.build.specs.Values.{Value, amount, none, words, taken_by, form_in, Filled, filled, fill_rows, fill_record, trimmed, text_in}
 use Rattle.build.specs.BuiltRecords.{Each}
+use Rattle.field.specs.declared.class.Field.{Field}
 
 -- So of field k, counted from 0, with the class and the columns that its row has.
-pub each_at : (P : Filled → Type 0) (letter : ℕ) (rows : List (List ℕ)) (values texts : List ℕ) → Each P (fill_rows letter rows values texts)
+pub each_at : (P : Filled → Type 0) (letter : ℕ) (rows : List Field) (values texts : List ℕ) → Each P (fill_rows letter rows values texts)
     → (k : ℕ) → k < length rows
     → P (record {
-      class = class_of (class_in (get_or rows k no_row));
+      class = class_in (get_or rows k no_row);
       first = first_in (get_or rows k no_row);
       last = last_in (get_or rows k no_row);
       value = get_or (map (λ (field : Filled). field.value) (fill_rows letter rows values texts)) k none;
@@ -73,11 +73,11 @@ pub record Stands (first last : ℕ) (v : Value) (final : List ℕ) : Type 0 whe
 
 -- ---- all values
 module _ (letter : ℕ) where
-  abbrev puts : List (List ℕ) → List ℕ → List ℕ → List ℕ → List ℕ
+  abbrev puts : List Field → List ℕ → List ℕ → List ℕ → List ℕ
   puts rows values texts line = put_all (map part_of (fill_rows letter rows values texts)) line
 
   -- Values that are put in from a column on leave what stands before it.
-  puts_before : (rows : List (List ℕ)) (from : ℕ) (values texts line : List ℕ) → tiles 290 from rows ≡ true → (j : ℕ) → j + 1 < from
+  puts_before : (rows : List Field) (from : ℕ) (values texts line : List ℕ) → tiles 290 from rows ≡ true → (j : ℕ) → j + 1 < from
       → get_or (puts rows values texts line) j 0 ≡ get_or line j 0
   unfolding fill_rows
   puts_before [] from values texts line t j h = ap (λ (l : List ℕ). get_or l j 0) (put_none line)
@@ -90,7 +90,7 @@ module _ (letter : ℕ) where
       ∙ put_elsewhere (first_in row) (last_in row) field.value (omega arith) line j (inl (omega arith))
 
   -- Each stands in the line, where it was blank from that column on.
-  pub all_stand : (rows : List (List ℕ)) (from : ℕ) (values texts line : List ℕ) → tiles 290 from rows ≡ true → 1 ≤ from → length line ≡ 290
+  pub all_stand : (rows : List Field) (from : ℕ) (values texts line : List ℕ) → tiles 290 from rows ≡ true → 1 ≤ from → length line ≡ 290
       → ((k : ℕ) → from - 1 ≤ k → k < 290 → get_or line k 0 ≡ 0x20)
       → Each (λ (field : Filled). Stands field.first field.last field.value (puts rows values texts line)) (fill_rows letter rows values texts)
   unfolding fill_rows

@@ -37,6 +37,7 @@ use Rattle.build.specs.StandLaws.{each_at, record_stands}
 use Rattle.build.specs.Values.{amount, none, Filled, form_in, fill_rows, fill_record, amount_in, read_by, as_read}
 use Rattle.build.specs.declared.form.Form.{Form}
 use Rattle.build.specs.declared.form.Form.TheVariants.{Amount}
+use Rattle.field.specs.declared.class.Field.{Field}
 
 -- ---- the labels of the refusals
 module _ (landmarks : Landmarks) (line : List ℕ) where
@@ -90,7 +91,7 @@ module _ (landmarks : Landmarks) (line : List ℕ) where
       append_all (filled_edits landmarks line field) (edits_of_all landmarks line fields) (rw here.fits refl, (here.permitted, here.own_fine)) (each_fine fields all.1)
 
 -- ---- the whole line
-columns_everywhere : (letter : ℕ) (line : List ℕ) (rows : List (List ℕ)) (from : ℕ) (values texts : List ℕ) → tiles 290 from rows ≡ true
+columns_everywhere : (letter : ℕ) (line : List ℕ) (rows : List Field) (from : ℕ) (values texts : List ℕ) → tiles 290 from rows ≡ true
     → Each (λ (field : Filled). every_column Permitted line field.first field.last ≡ fine) (fill_rows letter rows values texts)
     → (k : ℕ) → from ≤ k + 1 → k < 290 → allowed_test Permitted line k ≡ fine
 unfolding fill_rows

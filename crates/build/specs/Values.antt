@@ -6,7 +6,6 @@ use Rattle.chars.specs.Characters.{is_blank, capitals}
 use Rattle.chars.specs.Columns.{width_of}
 use Rattle.number.specs.Numbers.{number_in}
 use Rattle.text.specs.Text.{all_blank}
-use Rattle.field.specs.Classes.{class_of}
 use Rattle.field.specs.declared.class.Class.{Class}
 use Rattle.field.specs.declared.class.Class.TheVariants.{Ignored, RecordLetter, BlankSpace, Numeric, AccountNumber, Flag, ThirdQuarterFlag, Period, RequiredText, OptionalText, PersonName, EntityCode, StateCode, ZipCode, ZipExtension, TaxYear, EmployerFein, IdentityNumber, CeaseDate, More}
 use Rattle.edits.specs.FieldRow.{class_in, first_in, last_in}
@@ -14,6 +13,7 @@ use Rattle.pfml.specs.Edits.{rows_for}
 use Rattle.pfml.specs.Kinds.{kind_of}
 use Rattle.build.specs.declared.form.Form.{Form}
 use Rattle.build.specs.declared.form.Form.TheVariants.{Amount, Account, Words, Letter, Code, Blank}
+use Rattle.field.specs.declared.class.Field.{Field}
 
 -- An unpadded value: a number, an account number that is left out, or a text.
 pub data Value : Type 0 where
@@ -75,15 +75,15 @@ pub record Filled : Type 0 where
   pub last : ℕ
   pub value : Value
 
-abbrev pub form_in : List ℕ → Form
-form_in row = form_of (class_of (class_in row))
+abbrev pub form_in : Field → Form
+form_in row = form_of (class_in row)
 
-abbrev pub filled : ℕ → List ℕ → ℕ → List ℕ → Filled
+abbrev pub filled : ℕ → Field → ℕ → List ℕ → Filled
 filled letter row entry texts =
-    record { class = class_of (class_in row); first = first_in row; last = last_in row; value = value_by (form_in row) letter entry texts }
+    record { class = class_in row; first = first_in row; last = last_in row; value = value_by (form_in row) letter entry texts }
 
 -- One entry for each row, 0 where there is none; the texts one after the other.
-unfoldable pub fill_rows : ℕ → List (List ℕ) → List ℕ → List ℕ → List Filled
+unfoldable pub fill_rows : ℕ → List Field → List ℕ → List ℕ → List Filled
 fill_rows letter [] values texts = []
 fill_rows letter (row ∷ rows) values texts =
     filled letter row (get_or values 0 0) texts ∷ fill_rows letter rows (drop 1 values) (drop (taken_by (form_in row) (get_or values 0 0)) texts)

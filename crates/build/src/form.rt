@@ -21,32 +21,30 @@ pub enum Form {
 }
 
 // The entry of an account number that is left out.
-pub const NO_ACCOUNT: u64 = 18446744073709551615;
+pub const NO_ACCOUNT: u64 = u64::MAX;
 
 // How the value of a field of this class is given: as a number, as a text, or not at all.
 pub fn form_of(class: Class) -> Form
     ensures { result ≡ form_of class }
 {
     match class {
-        Class::Ignored => Form::Blank,
-        Class::RecordLetter => Form::Letter,
-        Class::BlankSpace => Form::Blank,
-        Class::Numeric => Form::Amount,
+        Class::Numeric
+        | Class::Flag
+        | Class::ThirdQuarterFlag
+        | Class::Period
+        | Class::TaxYear
+        | Class::EmployerFein
+        | Class::IdentityNumber
+        | Class::CeaseDate => Form::Amount,
         Class::AccountNumber => Form::Account,
-        Class::Flag => Form::Amount,
-        Class::ThirdQuarterFlag => Form::Amount,
-        Class::Period => Form::Amount,
-        Class::RequiredText => Form::Words,
-        Class::OptionalText => Form::Words,
-        Class::PersonName => Form::Words,
+        Class::RequiredText
+        | Class::OptionalText
+        | Class::PersonName
+        | Class::StateCode
+        | Class::ZipCode
+        | Class::ZipExtension => Form::Words,
+        Class::RecordLetter => Form::Letter,
         Class::EntityCode => Form::Code,
-        Class::StateCode => Form::Words,
-        Class::ZipCode => Form::Words,
-        Class::ZipExtension => Form::Words,
-        Class::TaxYear => Form::Amount,
-        Class::EmployerFein => Form::Amount,
-        Class::IdentityNumber => Form::Amount,
-        Class::CeaseDate => Form::Amount,
-        Class::More(_) => Form::Blank,
+        Class::Ignored | Class::BlankSpace | Class::More(_) => Form::Blank,
     }
 }

@@ -13,41 +13,47 @@ mod rows;
 mod value;
 
 ghost use Rattle.std.specs.Prelude.{◌≡◌};
-ghost use Rattle.reason.specs.ReasonNumbers.{notice, number_of};
-ghost use Rattle.write.specs.Writing.{notice_in, written_by};
+ghost use Rattle.reason.specs.ReasonNumbers.{notice, notice_of, number_of};
+ghost use Rattle.write.specs.Writing.{written_by};
 ghost use Rattle.build.specs.Building.{building};
 
-use reason::{Edit, Reason, Refusal};
+use reason::{Broken, Reason, Refusal};
+use rows::Given;
 use text::put;
 use write::Wrote;
 
-fn refused(column: u16, reason: Reason) -> Wrote
-    ensures { notice_in result ≡ notice (number_of reason) 0 column }
+// How many bytes the slice has to have.
+const SIZE: usize = pfml_fields::RECORD as usize;
+
+// A refusal has the column of what is broken, and no line: the record is in no file yet.
+fn refusal_of(broken: Broken) -> Refusal
+    ensures { notice_of result ≡ notice (number_of broken.1) 0 broken.0 }
 {
-    Wrote::Refused(Refusal {
+    let Broken(column, reason) = broken;
+    Refusal {
         line: 0,
         column,
         reason,
-    })
+    }
 }
 
 // The record that a letter names.
 fn build(letter: u8, values: &[u64], texts: &[u8], out: &mut [u8]) -> Wrote
     ensures { written_by result out.new ≡ building letter values.now texts.now out.old }
 {
-    if out.len() != pfml_fields::RECORD as usize {
-        return refused(0, Reason::BuildLength);
+    if out.len() != SIZE {
+        return Err(refusal_of(Broken(0, Reason::BuildLength)));
     }
-    let mut line = [0; pfml_fields::RECORD as usize];
-    rows::put_fields(letter, values, texts, &mut line);
-    let found = rows::first_broken(letter, values, texts, &line);
-    match found {
-        Edit::Broken(column, reason) => refused(column, reason),
-        Edit::Passed => {
-            put::put_text(out, 1, &line);
-            Wrote::Record
-        }
-    }
+    let given = Given {
+        letter,
+        values,
+        texts,
+    };
+    let mut line = [0; SIZE];
+    given.put_fields(&mut line);
+    given.first_broken(&line).map_err(refusal_of)?;
+    put::put_text(out, 1, &line);
+    Ok(())
 }
 
 // A: the transmitter.

@@ -2,33 +2,32 @@
 ghost use Rattle.std.specs.Prelude.{◌≡◌, length, get_or};
 ghost use Rattle.chars.specs.Characters.{capitals};
 ghost use Rattle.edits.specs.FieldRow.{first_in, last_in, no_row};
-ghost use Rattle.number.specs.Numbers.{number_in, reading_of};
+ghost use Rattle.reason.specs.ReasonNumbers.{reading_of};
+ghost use Rattle.number.specs.Numbers.{number_in};
 ghost use Rattle.pfml.specs.Edits.{rows_for};
 ghost use Rattle.pfml.specs.Kinds.{kind_of};
 ghost use Rattle.build.specs.Values.{text_in};
 
-use crate::{rows, value};
-use number::Number;
+use crate::rows;
+use reason::Broken;
 
 // Field k, counted from 0, of the record that a letter names, as a number.
-pub fn field_number(letter: u8, k: usize, line: &[u8]) -> Number
+pub fn field_number(letter: u8, k: usize, line: &[u8]) -> Result<u64, Broken>
     ensures { reading_of result ≡ number_in (capitals line.now) (first_in (get_or (rows_for (kind_of letter)) k no_row)) (last_in (get_or (rows_for (kind_of letter)) k no_row)) }
 {
     let row = rows::row_of(letter, k);
-    number::read_number(line, row[1], row[2])
+    number::read_number(line, row.first, row.last)
 }
 
 // How many characters the text in the columns first to last has, without trailing blanks.
 fn text_length(line: &[u8], first: u16, last: u16) -> usize
     ensures { result ≡ length (text_in (capitals line.now) first last) }
 {
-    let from = chars::index_of(first) as usize;
-    let mut end = tables::least(last as usize, line.len());
-    while from < end {
-        if chars::is_blank(chars::char_at(line, end - 1)) {
-            end -= 1;
-        } else {
-            return end - from;
+    let start = usize::from(chars::index_of(first));
+    let end = usize::from(last).min(line.len());
+    for at in (start..end).rev() {
+        if !chars::is_blank(chars::char_at(line, at)) {
+            return at + 1 - start;
         }
     }
     0
@@ -39,13 +38,12 @@ pub fn field_text(letter: u8, k: usize, line: &[u8]) -> usize
     ensures { result ≡ length (text_in (capitals line.now) (first_in (get_or (rows_for (kind_of letter)) k no_row)) (last_in (get_or (rows_for (kind_of letter)) k no_row))) }
 {
     let row = rows::row_of(letter, k);
-    text_length(line, row[1], row[2])
+    text_length(line, row.first, row.last)
 }
 
 // Its first column; 0 where there is no such field.
 pub fn field_first(letter: u8, k: usize) -> u16
     ensures { result ≡ first_in (get_or (rows_for (kind_of letter)) k no_row) }
 {
-    let row = rows::row_of(letter, k);
-    row[1]
+    rows::row_of(letter, k).first
 }

@@ -1,38 +1,45 @@
-// The value of a field: what it takes of the texts, whether it fits, and how it is put into the
-// field's columns.
-ghost use Rattle.std.specs.Prelude.{[], ◌≡◌, ◌^◌, min, ltb, take};
+// A field of a record that is built: what its value takes of the texts, whether it fits, how it is
+// put into the field's columns, and the edits of the field.
+#![tactic(auto, unfolding(laws::specs::Spelling::bytes))]
+
+ghost use Rattle.std.specs.Prelude.{◌≡◌, ◌^◌, min, length, ltb, take};
+ghost use Rattle.laws.specs.Spelling.{bytes};
+ghost use Rattle.reason.specs.ReasonNumbers.{finding_of};
+ghost use Rattle.chars.specs.Characters.{capitals};
 ghost use Rattle.chars.specs.Columns.{width_of};
 ghost use Rattle.text.specs.Put.{put_text};
+ghost use Rattle.edits.specs.Edit.{first_broken};
+ghost use Rattle.edits.specs.FieldRow.{class_in, first_in, last_in};
+ghost use Rattle.edits.specs.Tests.{Wide};
 ghost use Rattle.write.specs.Records.{put as put_part};
-ghost use Rattle.build.specs.Values.{taken_by, value_by};
-ghost use Rattle.build.specs.Building.{part_by, fits_in};
+ghost use Rattle.build.specs.Values.{taken_by, form_in, filled, value_by};
+ghost use Rattle.build.specs.Building.{part_of, fits_in, filled_edits};
 
+use crate::form;
 use crate::form::{Form, NO_ACCOUNT};
+use chars::columns;
+use chars::columns::Allowed;
+use edits::{Landmarks, own};
+use field::class;
+use field::class::Field;
+use reason::{Edit, Reason};
 use text::put;
 
-// How many columns a field has.
-pub fn width_of(first: u16, last: u16) -> u16
-    ensures { result ≡ width_of first last }
-{
-    let from = chars::index_of(first);
-    if last < from {
-        return 0;
-    }
-    last - from
+// A field with what it is given: the record's letter, the field's row, its entry of the values, and
+// the texts from its own on.
+#[derive(Clone, Copy)]
+pub struct GivenField<'a> {
+    pub letter: u8,
+    pub row: Field,
+    pub entry: u64,
+    pub texts: &'a [u8],
 }
 
-// How many of the characters that are left of the texts a field takes.
-pub fn taken(form: Form, entry: u64, left: usize) -> usize
-    ensures { result ≡ min (taken_by form entry) left }
+// How many columns a field has.
+fn width_of(first: u16, last: u16) -> u16
+    ensures { result ≡ width_of first last }
 {
-    match form {
-        Form::Amount => 0,
-        Form::Account => 0,
-        Form::Words => tables::least(entry as usize, left),
-        Form::Letter => 0,
-        Form::Code => 0,
-        Form::Blank => 0,
-    }
+    last.saturating_sub(chars::index_of(first))
 }
 
 // Whether a number has at most so many digits: as many are taken off it, and nothing is left.
@@ -40,87 +47,77 @@ fn has_room(v: u64, width: u16) -> bool
     ensures { result ≡ ltb v (10 ^ width) }
 {
     let mut left = v;
-    let mut n = width;
-    while 0 < n {
-        left = left / 10;
-        n -= 1;
+    for _ in 0..width {
+        left /= 10;
     }
     left == 0
-}
-
-// Whether the value of a field fits so many columns; `texts` are the texts from its own on.
-pub fn fits(form: Form, letter: u8, entry: u64, texts: &[u8], width: u16) -> bool
-    ensures { result ≡ fits_in width (value_by form letter entry texts.now) }
-{
-    match form {
-        Form::Amount => has_room(entry, width),
-        Form::Account => account_fits(entry, width),
-        Form::Words => tables::least(entry as usize, texts.len()) <= width as usize,
-        Form::Letter => 1 <= width,
-        Form::Code => 4 <= width,
-        Form::Blank => true,
-    }
-}
-
-fn account_fits(entry: u64, width: u16) -> bool
-    ensures { result ≡ fits_in width (value_by Form.Account 0 entry []) }
-{
-    if entry == NO_ACCOUNT {
-        return true;
-    }
-    has_room(entry, width)
 }
 
 // As many of the text's first characters as the entry says and the columns have room for.
 fn put_words(line: &mut [u8], first: u16, last: u16, entry: u64, text: &[u8])
     ensures { line.new ≡ put_text line.old first (take (width_of first last) (take entry text.now)) }
 {
-    let width = width_of(first, last) as usize;
-    let n = tables::least(tables::least(width, entry as usize), text.len());
-    put::put_text(line, first, &text[0..n]);
+    let width = usize::from(width_of(first, last));
+    let n = text.len().min(entry as usize).min(width);
+    put::put_text(line, first, &text[..n]);
 }
 
-fn put_account(line: &mut [u8], first: u16, last: u16, entry: u64)
-    ensures { line.new ≡ put_part (part_by first last (value_by Form.Account 0 entry [])) line.old }
-{
-    if entry == NO_ACCOUNT {
-        return;
+impl GivenField<'_> {
+    fn form(&self) -> Form
+        ensures { result ≡ form_in self.now.row }
+    {
+        form::form_of(self.row.class)
     }
-    number::write_number(line, first, last, entry)
-}
 
-fn put_letter(line: &mut [u8], first: u16, last: u16, letter: u8)
-    ensures { line.new ≡ put_part (part_by first last (value_by Form.Letter letter 0 [])) line.old }
-{
-    let text = [letter];
-    put_words(line, first, last, 1, &text)
-}
+    // How many of the characters that are left of the texts it takes.
+    pub(crate) fn taken(&self) -> usize
+        ensures { result ≡ min (taken_by (form_in self.now.row) self.now.entry) (length self.now.texts.now) }
+    {
+        match self.form() {
+            Form::Words => self.texts.len().min(self.entry as usize),
+            _ => 0,
+        }
+    }
 
-fn put_code(line: &mut [u8], first: u16, last: u16)
-    ensures { line.new ≡ put_part (part_by first last (value_by Form.Code 0 0 [])) line.old }
-{
-    let text = pfml::ENTITY;
-    put_words(line, first, last, 4, &text)
-}
+    // Whether its value fits its columns.
+    fn fits(&self) -> bool
+        ensures { result ≡ fits_in (width_of (first_in self.now.row) (last_in self.now.row)) (value_by (form_in self.now.row) self.now.letter self.now.entry self.now.texts.now) }
+    {
+        let width = width_of(self.row.first, self.row.last);
+        match self.form() {
+            Form::Amount => has_room(self.entry, width),
+            Form::Account => self.entry == NO_ACCOUNT || has_room(self.entry, width),
+            Form::Words => self.taken() <= usize::from(width),
+            Form::Letter => 1 <= width,
+            Form::Code => 4 <= width,
+            Form::Blank => true,
+        }
+    }
 
-// The value of a field into its columns, which are blank.
-pub fn put_value(
-    form: Form,
-    letter: u8,
-    entry: u64,
-    texts: &[u8],
-    first: u16,
-    last: u16,
-    line: &mut [u8],
-)
-    ensures { line.new ≡ put_part (part_by first last (value_by form letter entry texts.now)) line.old }
-{
-    match form {
-        Form::Amount => number::write_number(line, first, last, entry),
-        Form::Account => put_account(line, first, last, entry),
-        Form::Words => put_words(line, first, last, entry, texts),
-        Form::Letter => put_letter(line, first, last, letter),
-        Form::Code => put_code(line, first, last),
-        Form::Blank => {}
+    // Its value into its columns, which are blank.
+    pub(crate) fn put(&self, line: &mut [u8])
+        ensures { line.new ≡ put_part (part_of (filled self.now.letter self.now.row self.now.entry self.now.texts.now)) line.old }
+    {
+        let Field { first, last, .. } = self.row;
+        match self.form() {
+            Form::Account if self.entry == NO_ACCOUNT => {}
+            Form::Amount | Form::Account => number::write_number(line, first, last, self.entry),
+            Form::Words => put_words(line, first, last, self.entry, self.texts),
+            Form::Letter => put_words(line, first, last, 1, &[self.letter]),
+            Form::Code => put_words(line, first, last, 4, &pfml::ENTITY),
+            Form::Blank => {}
+        }
+    }
+
+    // Its edits with its value: too long, a bad character, its own.
+    pub(crate) fn edit(&self, landmarks: Landmarks, line: &[u8]) -> Edit
+        requires { Wide (class_in self.now.row) (first_in self.now.row) (last_in self.now.row) }
+        ensures { finding_of result ≡ first_broken (filled_edits landmarks (capitals line.now) (filled self.now.letter self.now.row self.now.entry self.now.texts.now)) }
+    {
+        let Field { first, last, .. } = self.row;
+        columns::unless(self.fits(), first, Reason::ValueTooLong)?;
+        columns::every_column(Allowed::Permitted, line, first, last)?;
+        class::class_edit(line, self.row)?;
+        own::own_edit(landmarks, pfml::ENTITY, line, self.row)
     }
 }

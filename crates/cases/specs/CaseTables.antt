@@ -16,8 +16,6 @@ use Rattle.chars.specs.Columns.{column_test, every_column}
 use Rattle.number.specs.Numbers.{number_from, number_in, value_in}
 use Rattle.rules.specs.Rules.{period_in, flag_in, begins_with69, is_nine_zeros, may_be_filed}
 use Rattle.text.specs.Text.{all_blank, is_indented, is_asked, reads_as, has_pattern}
-use Rattle.field.specs.Classes.{classes, class_of}
-use Rattle.edits.specs.RuleNumbers.{rule_list, rule_of}
 use Rattle.edits.specs.FieldEdits.{field_edits}
 use Rattle.edits.specs.declared.Opening.{Opening}
 use Rattle.edits.specs.declared.format.Format.TheVariants.{Pfml}
@@ -56,8 +54,8 @@ unfolding
     is_permitted capital_of capitals is_blank is_digit is_letter is_of_name column_test every_column
     number_from number_in value_in period_in flag_in begins_with69 is_nine_zeros may_be_filed
     all_blank is_indented is_asked reads_as has_pattern
-    classes class_of fields_of_a fields_of_e fields_of_s fields_of_t fields_of_f
-    rule_list rule_of field_edits kind_of rules_of_a rules_of_e rules_of_s rules_of_t rules_of_f
+    fields_of_a fields_of_e fields_of_s fields_of_t fields_of_f
+    field_edits kind_of rules_of_a rules_of_e rules_of_s rules_of_t rules_of_f
     is_among edits_from first_of_file records_onto
 computed c = meaning room held c.file
 

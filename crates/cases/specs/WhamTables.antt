@@ -16,8 +16,6 @@ use Rattle.number.specs.Letters.{letters_from, letters_in}
 use Rattle.number.specs.Numbers.{number_from, number_in, value_in}
 use Rattle.rules.specs.Rules.{period_in, flag_in}
 use Rattle.text.specs.Text.{all_blank, is_indented, is_asked, reads_as, has_pattern}
-use Rattle.field.specs.Classes.{classes, class_of}
-use Rattle.edits.specs.RuleNumbers.{rule_list, rule_of}
 use Rattle.edits.specs.FieldEdits.{field_edits}
 use Rattle.edits.specs.declared.Opening.{Opening}
 use Rattle.edits.specs.declared.format.Format.TheVariants.{Wham2024}
@@ -93,8 +91,8 @@ unfolding
     is_permitted capital_of capitals is_blank is_digit is_letter column_test every_column
     number_from number_in value_in letters_from letters_in period_in flag_in
     all_blank is_indented is_asked reads_as has_pattern
-    classes class_of fields_of_a fields_of_e fields_of_s fields_of_r fields_of_t fields_of_f
-    rule_list rule_of field_edits kind_of rules_of_a rules_of_e rules_of_s rules_of_r rules_of_t rules_of_f
+    fields_of_a fields_of_e fields_of_s fields_of_r fields_of_t fields_of_f
+    field_edits kind_of rules_of_a rules_of_e rules_of_s rules_of_r rules_of_t rules_of_f
     is_among edits_from first_of_file records_onto
 computed_wham c = meaning room held c.file
 

@@ -1,11 +1,13 @@
 -- Follows the code; need not be believed. A sweep over columns: whether all of them hold what they may, told by the characters as they stand, before they
 -- are read in capitals.
-use Prim.Native.Nat.{ℕ, zero, suc, ◌+◌, ◌-◌, ◌<◌, ◌≤◌}
-use Rattle.std.specs.Prelude.{◌≡◌, Bool, true, false, ◌&&◌, List, eqb, leb, length, get_or, if◌then◌else◌}
+use Prim.Native.Nat.{ℕ, zero, suc, ◌+◌, ◌-◌, ◌<◌}
+use Rattle.std.specs.Prelude.{◌≡◌, Bool, true, false, ◌&&◌, ◌⊎◌, List, eqb, leb, length, get_or, drop, slice_range, if◌then◌else◌}
 use Rattle.std.proofs.Math.Path.{refl}
-use Rattle.std.proofs.Common.{sym, ap, ◌∙◌, eq-eqb, ne_eqb, leb-true, leb-false}
+use Rattle.std.proofs.Common.{sym, ap, ◌∙◌, inl, inr, ne_eqb, leb-true, leb-false, get_or-drop}
+use Rattle.std.proofs.lemmas.List.{get_or-take}
 use Rattle.std.proofs.lemmas.Bool.{false≢true}
 use Rattle.std.proofs.Math.Nat.{add-zero}
+use Rattle.std.proofs.Common.{add-one}
 use native.Mathlib.Omega.{arith}
 use Rattle.std.proofs.Math.ListN.{get_or-eq_default}
 use Rattle.laws.specs.ChoiceLaws.{within}
@@ -22,13 +24,9 @@ unfoldable pub all_pass : (ℕ → Bool) → List ℕ → ℕ → ℕ → Bool
 all_pass test line at zero = true
 all_pass test line at (suc n) = test (get_or line at 0) && all_pass test line (at + 1) n
 
--- Whether a character lies between two others, both among them.
-abbrev pub is_between : ℕ → ℕ → ℕ → Bool
-is_between low high c = leb low c && leb c high
-
--- Whether a character, read in capitals, is one of names.
-abbrev pub reads_as_of_name : ℕ → Bool
-reads_as_of_name c = is_of_name (capital_of c)
+-- What a call answers of a byte is what a test tells of it.
+abbrev pub Tells : (ℕ → Bool → Type 0) → (ℕ → Bool) → Type 0
+Tells answers test = (c : ℕ) (passes : Bool) → c < 256 → answers c passes → passes ≡ test c
 
 -- Whether a character is what a column may hold.
 abbrev pub may_hold : Allowed → ℕ → Bool
@@ -37,6 +35,14 @@ may_hold Permitted c = is_permitted c
 may_hold Blanks c = is_blank c
 may_hold Digits c = is_digit c
 may_hold OfNames c = is_of_name c
+
+-- The same of a character as it stands: a small letter and its capital are both permitted, and both neither blank nor a digit.
+abbrev pub may_stand : Allowed → ℕ → Bool
+may_stand Anything c = true
+may_stand Permitted c = is_permitted c
+may_stand Blanks c = is_blank c
+may_stand Digits c = is_digit c
+may_stand OfNames c = is_of_name (capital_of c)
 
 -- ---- a sweep's steps
 and_assoc : (a b c : Bool) → a && (b && c) ≡ (a && b) && c
@@ -63,15 +69,13 @@ module _ (test : ℕ → Bool) (line : List ℕ) where
       let place : at + suc n ≡ at + 1 + n = omega arith in
       rw (one_more (at + 1) n, place) (and_assoc (test (get_or line at 0)) (all_pass test line (at + 1) n) (test (get_or line (at + 1 + n) 0)))
 
-  -- A sweep from a place on that has come to i goes on by the character there.
-  pub swept_more : (from i : ℕ) → from ≤ i → all_pass test line from (i + 1 - from) ≡ all_pass test line from (i - from) && test (get_or line i 0)
-  swept_more from i h =
-      let width : i + 1 - from ≡ suc (i - from) = omega arith in
-      let place : from + (i - from) ≡ i = omega arith in
-      rw width (one_more from (i - from) ∙ rw place)
+  -- A sweep over the places from..to that has passed n of them goes on by the next.
+  pub swept_more : (from to n : ℕ) → n < to - from
+      → all_pass test line from (n + 1) ≡ all_pass test line from n && test (get_or (slice_range line from to) n 0)
+  swept_more from to n h = rw (get_or-take (to - from) (drop from line) n 0 h, get_or-drop from line n 0, add-one) (one_more from n)
 
-  -- After the line's end a character is told as 0: places that reach there pass a test that 0 fails only where there are none of them.
-  pub behind_the_end : (from to : ℕ) → test 0 ≡ false → length line < to → leb to from ≡ all_pass test line from (to - from)
+  -- After the line's end a character is told as 0: places that are not all in the line pass a test that 0 fails only where there are none of them.
+  pub behind_the_end : (from to : ℕ) → test 0 ≡ false → (to < from) ⊎ (length line < to) → leb to from ≡ all_pass test line from (to - from)
   behind_the_end from to fails h = by (leb to from) refl where
     by : (none : Bool) → leb to from ≡ none → none ≡ all_pass test line from (to - from)
     by true e =
@@ -80,9 +84,10 @@ module _ (test : ℕ → Bool) (line : List ℕ) where
         sym (rw width (none_left from))
     by false e =
         let below = leb-false to from e in
-        let width : to - from ≡ to - 1 + 1 - from = omega arith in
-        let last : get_or line (to - 1) 0 ≡ 0 = get_or-eq_default line 0 (omega arith) in
-        sym (rw width (swept_more from (to - 1) (omega arith) ∙ rw (last, fails) (and_false (all_pass test line from (to - 1 - from)))))
+        let width : to - from ≡ suc (to - 1 - from) = omega arith in
+        let short : length line < to = elim h [ inl k ↦ absurd (omega arith) | inr k ↦ k ] in
+        let last : get_or line (from + (to - 1 - from)) 0 ≡ 0 = get_or-eq_default line 0 (omega arith) in
+        sym (rw width (one_more from (to - 1 - from) ∙ rw (last, fails) (and_false (all_pass test line from (to - 1 - from)))))
 
 -- ---- what the columns of a field say is what a sweep says
 -- A finding that is told to be fine is so.
@@ -126,56 +131,34 @@ unfolding all_pass
 as_it_stands test given same line zero at = refl
 as_it_stands test given same line (suc n) at = rw (capital_at line at, same (get_or line at 0), as_it_stands test given same line n (at + 1))
 
--- Only blanks lie between a blank and a blank.
-only_blank : (c : ℕ) → eqb c 0x20 ≡ is_between 0x20 0x20 c
-only_blank c = by (leb 0x20 c) (leb c 0x20) refl refl where
-  by : (low high : Bool) → leb 0x20 c ≡ low → leb c 0x20 ≡ high → eqb c 0x20 ≡ low && high
-  by true true p q =
-      let above = leb-true 0x20 c p in
-      let below = leb-true c 0x20 q in
-      eq-eqb c 0x20 (omega arith)
-  by true false p q = let above = leb-false c 0x20 q in ne_eqb c 0x20 (λ e. omega arith)
-  by false high p q = let below = leb-false 0x20 c p in ne_eqb c 0x20 (λ e. omega arith)
-
--- A small letter and its capital are both permitted, and both neither blank nor a digit.
-permitted_given : (c : ℕ) → is_permitted (capital_of c) ≡ is_between 0x20 0x7e c
-unfolding is_permitted
-permitted_given c = capital_permitted c
-
-blank_given : (c : ℕ) → is_blank (capital_of c) ≡ is_between 0x20 0x20 c
+capital_is_blank : (c : ℕ) → is_blank (capital_of c) ≡ is_blank c
 unfolding is_blank capital_of
-blank_given c = by (leb 97 c && leb c 122) refl where
-  by : (small : Bool) → leb 97 c && leb c 122 ≡ small → eqb (if small then c - 32 else c) 0x20 ≡ is_between 0x20 0x20 c
+capital_is_blank c = by (leb 97 c && leb c 122) refl where
+  by : (small : Bool) → leb 97 c && leb c 122 ≡ small → eqb (if small then c - 32 else c) 0x20 ≡ eqb c 0x20
   by true e =
       let w = within 97 c 122 e in
-      ne_eqb (c - 32) 0x20 (λ s. omega arith) ∙ sym (ne_eqb c 0x20 (λ s. omega arith)) ∙ only_blank c
-  by false e = only_blank c
+      ne_eqb (c - 32) 0x20 (λ s. omega arith) ∙ sym (ne_eqb c 0x20 (λ s. omega arith))
+  by false e = refl
 
-digit_given : (c : ℕ) → is_digit (capital_of c) ≡ is_between 48 57 c
-unfolding is_digit
-digit_given c = capital_is_digit c
+stands : (allowed : Allowed) (c : ℕ) → may_hold allowed (capital_of c) ≡ may_stand allowed c
+stands Anything c = refl
+stands Permitted c = capital_permitted c
+stands Blanks c = capital_is_blank c
+stands Digits c = capital_is_digit c
+stands OfNames c = refl
 
 -- ---- the sweeps of the code
--- Whether every column holds what it may, where that is a span of characters.
-module _ (line : List ℕ) (first last : ℕ) where
-  pub permitted_sweep : is_fine (every_column Permitted (capitals line) first last) ≡ all_pass (is_between 0x20 0x7e) line (first - 1) (last - (first - 1))
-  permitted_sweep =
-      every_passes Permitted (capitals line) first last ∙ as_it_stands is_permitted (is_between 0x20 0x7e) permitted_given line (width_of first last) (first - 1)
+-- Whether every column holds what it may is told by the characters as they stand.
+pub sweep : (allowed : Allowed) (line : List ℕ) (first last : ℕ)
+    → is_fine (every_column allowed (capitals line) first last) ≡ all_pass (may_stand allowed) line (first - 1) (last - (first - 1))
+sweep allowed line first last =
+    every_passes allowed (capitals line) first last
+    ∙ as_it_stands (may_hold allowed) (may_stand allowed) (stands allowed) line (width_of first last) (first - 1)
 
-  pub blank_sweep : is_fine (every_column Blanks (capitals line) first last) ≡ all_pass (is_between 0x20 0x20) line (first - 1) (last - (first - 1))
-  blank_sweep = every_passes Blanks (capitals line) first last ∙ as_it_stands is_blank (is_between 0x20 0x20) blank_given line (width_of first last) (first - 1)
+pub anything_sweep : (line : List ℕ) (first last : ℕ) → is_fine (every_column Anything line first last) ≡ true
+anything_sweep line first last = ap is_fine (every_anything line first last)
 
-  pub digit_sweep : is_fine (every_column Digits (capitals line) first last) ≡ all_pass (is_between 48 57) line (first - 1) (last - (first - 1))
-  digit_sweep = every_passes Digits (capitals line) first last ∙ as_it_stands is_digit (is_between 48 57) digit_given line (width_of first last) (first - 1)
-
-  pub name_sweep : is_fine (every_column OfNames (capitals line) first last) ≡ all_pass reads_as_of_name line (first - 1) (last - (first - 1))
-  name_sweep =
-      every_passes OfNames (capitals line) first last ∙ as_it_stands is_of_name reads_as_of_name (λ c. refl) line (width_of first last) (first - 1)
-
-  pub anything_sweep : is_fine (every_column Anything (capitals line) first last) ≡ true
-  anything_sweep = ap is_fine (every_anything (capitals line) first last)
-
--- No character, told as 0, is one of names.
-pub no_name_at_0 : reads_as_of_name 0 ≡ false
-unfolding is_of_name is_letter is_blank capital_of
-no_name_at_0 = refl
+-- No character, told as 0, is one of those that are looked for.
+pub none_at_0 : (may_stand Permitted 0 ≡ false) × (may_stand Blanks 0 ≡ false) × (may_stand Digits 0 ≡ false) × (may_stand OfNames 0 ≡ false)
+unfolding is_permitted is_blank is_digit is_of_name is_letter capital_of
+none_at_0 = (refl, refl, refl, refl)

@@ -1,64 +1,76 @@
--- The rows of the table: the states, then the provinces. What the first row that is the code says is what the definition says.
-use Prim.Native.Nat.{ℕ, zero, suc, ◌+◌, ◌-◌, ◌≤◌, ◌<◌, zero-le, suc-le-suc}
-use mathlib.Core.Bool.{true, false, or-true}
-use mathlib.Core.List.{List, [], ◌∷◌, ◌++◌}
-use mathlib.Core.Path.{◌≡◌, refl}
-use native.Mathlib.Nat.{not-suc-le-zero, le_of_suc-le-suc}
-use native.Mathlib.Omega.{arith}
-use lib.ListN.{length, get_or, get_or-append}
-use lib.Seq.{get_or-append-add}
-use Rattle.codes.specs.Codes.{states, provinces, is_code, is_among, region_of}
+-- The rows of the table: the states, then the provinces. The place of the first row that is the code tells what the definition says.
+use Rattle.std.specs.Prelude.{ℕ, ◌+◌, ◌<◌, ◌≤◌, ◌≡◌, refl, Bool, true, false, not, ◌||◌, List, [], ◌∷◌, ◌++◌, cond, eqb, ltb, length, if◌then◌else◌, Option, Some, None}
+use Rattle.std.proofs.Common.{◌∙◌, sym, append-nil, lt-ltb, le-ltb, arith}
+use Rattle.std.proofs.Math.Bool.{and-true}
+use Rattle.std.proofs.lemmas.Bool.{false≢true}
+use Rattle.std.specs.List.{position, position_or_len}
+use Rattle.std.specs.Cmp.Lexicographic.{pointwise}
+use Rattle.laws.specs.Spelling.{bytes}
+use Rattle.codes.specs.Codes.{codes_in, states, provinces, is_code, is_among, region_of}
 use Rattle.codes.specs.Laws.{states_are_51, provinces_are_13}
-use Rattle.codes.specs.declared.Region.TheVariants.{State, Province, Unknown}
+use Rattle.codes.specs.declared.Region.{Region}
+use Rattle.codes.specs.declared.Region.TheVariants.{State, Province}
 
 abbrev pub rows : List (List ℕ)
 rows = states ++ provinces
 
+rows_are_64 : length rows ≡ 64
+unfolding states provinces codes_in bytes
+rows_are_64 = refl
+
+-- What stands at a place of the rows.
+abbrev pub region_at : Option ℕ → Option Region
+region_at (Some k) = if ltb k 51 then Some State else Some Province
+region_at None = None
+
 module _ (a b : ℕ) where
-  -- A code that stands at some place of a list is among it,
-  among_at : (l : List (List ℕ)) (k : ℕ) → k < length l → is_code a b (get_or l k []) ≡ true → is_among a b l ≡ true
-  unfolding is_among
-  among_at [] k h t = absurd (not-suc-le-zero h)
-  among_at (code ∷ l) zero h t = rw t
-  among_at (code ∷ l) (suc k) h t = rw (among_at l k (le_of_suc-le-suc h) t, or-true)
+  place : List (List ℕ) → ℕ
+  place codes = position_or_len (is_code a b) codes
 
-  -- and one that stands at none is not.
-  none_among : (l : List (List ℕ)) → ((k : ℕ) → k < length l → is_code a b (get_or l k []) ≡ false) → is_among a b l ≡ false
-  unfolding is_among
-  none_among [] none = refl
-  none_among (code ∷ l) none = rw (none 0 (suc-le-suc zero-le)) (none_among l (λ k h. none (suc k) (suc-le-suc h)))
+  -- A code that is among the codes stands before those that follow them,
+  early : (codes more : List (List ℕ)) → is_among a b codes ≡ true → place (codes ++ more) < length codes
+  unfolding place is_among
+  early [] more among = absurd (false≢true among)
+  early (code ∷ codes) more among = by (is_code a b code) (place (codes ++ more)) among (early codes more)
+    where
+      by : (is : Bool) (k : ℕ) → is || is_among a b codes ≡ true → (is_among a b codes ≡ true → k < length codes) → cond (not is) (1 + k) 0 < length (code ∷ codes)
+      by true k among rest = omega arith
+      by false k among rest = let below = rest among in omega arith
 
-row_state : (k : ℕ) → k < 51 → get_or rows k [] ≡ get_or states k []
-row_state k h = get_or-append states provinces [] k (omega (arith, states_are_51))
+  -- and one that is not stands behind them.
+  late : (codes more : List (List ℕ)) → is_among a b codes ≡ false → place (codes ++ more) ≡ length codes + place more
+  unfolding place is_among
+  late [] more among = omega arith
+  late (code ∷ codes) more among = by (is_code a b code) (place (codes ++ more)) among (late codes more)
+    where
+      by : (is : Bool) (k : ℕ) → is || is_among a b codes ≡ false → (is_among a b codes ≡ false → k ≡ length codes + place more)
+          → cond (not is) (1 + k) 0 ≡ length (code ∷ codes) + place more
+      by true k among rest = absurd (false≢true (sym among))
+      by false k among rest = let behind = rest among in omega arith
 
-row_province : (k : ℕ) → get_or rows (51 + k) [] ≡ get_or provinces k []
-row_province k = rw (← states_are_51) (get_or-append-add states provinces k [])
+  none_but : (codes : List (List ℕ)) → is_among a b codes ≡ false → place codes ≡ length codes
+  unfolding place
+  none_but codes among = rw append-nil at (late codes [] among) ∙ omega arith
 
--- None of the first k rows is the code ab.
-abbrev pub Passed : ℕ → ℕ → ℕ → Type 0
-Passed a b k = (j : ℕ) → j < k → is_code a b (get_or rows j []) ≡ false
+  -- A row has two letters, and it is the code exactly if both are the code's.
+  pub same_place : position (λ code. pointwise eqb code (a ∷ b ∷ [])) rows ≡ position (is_code a b) rows
+  unfolding states provinces codes_in bytes is_code
+  same_place = simp and-true
 
-module _ (a b k : ℕ) where
-  no_state : Passed a b k → 51 ≤ k → is_among a b states ≡ false
-  no_state passed h =
-      none_among a b states
-      (λ j below. let j<51 : j < 51 = omega (arith, states_are_51) in rw (← row_state j j<51) (passed j (omega arith)))
-
-  no_province : Passed a b k → 64 ≤ k → is_among a b provinces ≡ false
-  no_province passed h =
-      none_among a b provinces (λ j below. rw (← row_province j) (passed (51 + j) (omega (arith, provinces_are_13))))
-
-  pub is_state : k < 51 → is_code a b (get_or rows k []) ≡ true → State ≡ region_of a b
-  unfolding region_of
-  is_state h t = rw (among_at a b states k (omega (arith, states_are_51)) (rw (← row_state k h) t))
-
-  pub is_province : Passed a b k → 51 ≤ k → k < 64 → is_code a b (get_or rows k []) ≡ true → Province ≡ region_of a b
-  unfolding region_of
-  is_province passed h below t =
-      let at : 51 + (k - 51) ≡ k = omega arith in
-      let row : is_code a b (get_or provinces (k - 51) []) ≡ true = rw (← row_province (k - 51), at) t in
-      rw (no_state passed h, among_at a b provinces (k - 51) (omega (arith, provinces_are_13)) row)
-
-  pub is_unknown : Passed a b k → 64 ≤ k → Unknown ≡ region_of a b
-  unfolding region_of
-  is_unknown passed h = rw (no_state passed (omega arith), no_province passed h)
+  pub placed : region_of a b ≡ region_at (position (is_code a b) rows)
+  unfolding region_of place
+  placed = by (is_among a b states) (is_among a b provinces) refl refl
+    where
+      by : (state province : Bool) → is_among a b states ≡ state → is_among a b provinces ≡ province
+          → (if state then Some State else if province then Some Province else None) ≡ region_at (position (is_code a b) rows)
+      by true province state_is province_is =
+          let at : place rows < 51 = omega (arith, early states provinces state_is, states_are_51) in
+          rw (rows_are_64, lt-ltb (place rows) 64 (omega arith), lt-ltb (place rows) 51 at)
+      by false true state_is province_is =
+          let behind : 51 ≤ place rows = omega (arith, late states provinces state_is, states_are_51) in
+          let within : place (provinces ++ []) < 13 = omega (arith, early provinces [] province_is, provinces_are_13) in
+          let at : place rows < 64 = omega (arith, late states provinces state_is, states_are_51, rw append-nil at within) in
+          rw (rows_are_64, lt-ltb (place rows) 64 at, le-ltb (place rows) 51 behind)
+      by false false state_is province_is =
+          let at : 64 ≤ place rows = omega (arith, late states provinces state_is, none_but provinces province_is, states_are_51, provinces_are_13) in
+          rw (rows_are_64, le-ltb (place rows) 64 at)

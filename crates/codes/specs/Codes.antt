@@ -1,8 +1,8 @@
 -- Definitions: the codes of Appendix A, and what each stands for.
-use Rattle.std.specs.Prelude.{ℕ, Bool, false, ◌&&◌, ◌||◌, true, not, List, [], ◌∷◌, eqb, get_or, if◌then◌else◌}
+use Rattle.std.specs.Prelude.{ℕ, Bool, false, ◌&&◌, ◌||◌, true, not, List, [], ◌∷◌, eqb, get_or, if◌then◌else◌, Option, Some, None}
 use Rattle.laws.specs.Spelling.{bytes}
 use Rattle.codes.specs.declared.Region.{Region}
-use Rattle.codes.specs.declared.Region.TheVariants.{State, Province, Unknown}
+use Rattle.codes.specs.declared.Region.TheVariants.{State, Province}
 
 -- Codes of two letters, with a blank between each two.
 unfoldable pub codes_in : List ℕ → List (List ℕ)
@@ -29,8 +29,8 @@ is_among a b [] = false
 is_among a b (code ∷ codes) = is_code a b code || is_among a b codes
 
 -- "one of the 64 codes of Appendix A, 50 states, DC and 13 provinces (35)"
-unfoldable pub region_of : ℕ → ℕ → Region
-region_of a b = if is_among a b states then State else if is_among a b provinces then Province else Unknown
+unfoldable pub region_of : ℕ → ℕ → Option Region
+region_of a b = if is_among a b states then Some State else if is_among a b provinces then Some Province else None
 
 -- No code of the list is among those after it.
 unfoldable pub all_differ : List (List ℕ) → Bool

@@ -1,7 +1,7 @@
-// The two-letter codes of Appendix A: whether a code is a state's, a province's or unknown.
-#![tactic(auto)]
+// The two-letter codes of Appendix A: whether a code is a state's, a province's or neither.
+#![tactic(auto, using(crate::proofs::CodeRows::placed))]
 
-ghost use Rattle.std.specs.Prelude.{◌≡◌, ◌++◌};
+ghost use Rattle.std.specs.Prelude.{◌≡◌, ◌++◌, position};
 ghost use Rattle.codes.specs.Codes.{states, provinces, is_code, region_of};
 
 // What a code stands for.
@@ -9,7 +9,6 @@ ghost use Rattle.codes.specs.Codes.{states, provinces, is_code, region_of};
 pub enum Region {
     State,
     Province,
-    Unknown,
 }
 
 // The states, DC among them in its place, then the provinces, in the order of Appendix A.
@@ -25,34 +24,20 @@ const CODES: [[u8; 2]; 64] = [
 // How many of the codes are states.
 const STATES: usize = 51;
 
-// The table as a value: a lookup takes it once, not once a row.
-fn all_codes() -> [[u8; 2]; 64]
-    ensures { result ≡ states ++ provinces }
+// The place of the code ab in the table.
+fn place_of(a: u8, b: u8) -> Option<usize>
+    ensures { result ≡ position (is_code a b) (states ++ provinces) }
 {
-    CODES
+    CODES.iter().position(|code| *code == [a, b])
 }
 
-fn is_code(code: [u8; 2], a: u8, b: u8) -> bool
-    ensures { result ≡ is_code a b code }
-{
-    if code[0] == a {
-        return code[1] == b;
-    }
-    false
-}
-
-// What the two capitals a, b stand for.
-pub fn region_of(a: u8, b: u8) -> Region
+// What the two capitals a, b stand for; nothing, where they are no code.
+pub fn region_of(a: u8, b: u8) -> Option<Region>
     ensures { result ≡ region_of a b }
 {
-    let codes = all_codes();
-    for k in 0..64 {
-        if is_code(codes[k], a, b) {
-            if k < STATES {
-                return Region::State;
-            }
-            return Region::Province;
-        }
+    match place_of(a, b) {
+        Some(k) if k < STATES => Some(Region::State),
+        Some(_) => Some(Region::Province),
+        None => None,
     }
-    Region::Unknown
 }

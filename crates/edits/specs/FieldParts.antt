@@ -18,7 +18,7 @@ use Rattle.edits.specs.EditLaws.{or_fine, or_assoc, or_same, first_append}
 use Rattle.edits.specs.Own.{is_final, cease_edits, own}
 use Rattle.edits.specs.FurtherTests.{further_parts}
 use Rattle.edits.specs.WithContext.{with_context}
-use Rattle.edits.specs.RuleNumbers.{Around}
+use Rattle.edits.specs.declared.Around.{Around}
 use Rattle.edits.specs.Tests.{cease_rules, cease_in, cease_test, third_quarter_test, own_rest, rules_test, field_test, Readable, Wide}
 use Rattle.edits.specs.declared.Landmarks.{Landmarks}
 use Rattle.edits.specs.declared.Rule.{Rule}

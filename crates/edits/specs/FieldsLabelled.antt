@@ -1,5 +1,5 @@
 -- Laws: what an edit of a field finds is told by its label.
-use Rattle.std.specs.Prelude.{ℕ, ◌+◌, Bool, true, false, refl, List, [], ◌∷◌, get_or, if◌then◌else◌}
+use Rattle.std.specs.Prelude.{ℕ, ◌+◌, Bool, true, false, refl, List, [], ◌∷◌, if◌then◌else◌}
 use Rattle.std.proofs.Common.{arith}
 use Rattle.laws.specs.Finding.{Finding}
 use Rattle.laws.specs.Labelled.{Labelled, labelled_says, says_labelled, fine_labelled, choice_labelled}
@@ -10,14 +10,13 @@ use Rattle.chars.specs.ColumnLaws.{unless_labelled, blanks_labelled, digits_labe
 use Rattle.number.specs.Numbers.{value_in}
 use Rattle.rules.specs.RuleLaws.{period_labelled, flag_labelled}
 use Rattle.text.specs.TextLaws.{entity_labelled, state_labelled, zip_labelled, extension_labelled}
-use Rattle.field.specs.Classes.{class_of}
 use Rattle.field.specs.declared.class.Class.{Class}
 use Rattle.field.specs.declared.class.Class.TheVariants.{Ignored, RecordLetter, BlankSpace, Numeric, AccountNumber, Flag, ThirdQuarterFlag, Period, RequiredText, OptionalText, PersonName, EntityCode, StateCode, ZipCode, ZipExtension, TaxYear, EmployerFein, IdentityNumber, CeaseDate, More}
 use Rattle.edits.specs.Labels.{AllLabelled}
 use Rattle.edits.specs.LabelLaws.{none_labelled, more_labelled, labelled_append}
 use Rattle.edits.specs.Own.{own}
 use Rattle.edits.specs.WithContext.{rule_edits, with_context}
-use Rattle.edits.specs.RuleNumbers.{Around, rule_of}
+use Rattle.edits.specs.declared.Around.{Around}
 use Rattle.edits.specs.FieldEdits.{edits_of, field_edits}
 use Rattle.edits.specs.declared.Context.{Context}
 use Rattle.edits.specs.declared.Landmarks.{Landmarks}
@@ -26,6 +25,8 @@ use Rattle.edits.specs.declared.Rule.{Rule}
 use Rattle.edits.specs.declared.Rule.TheVariants.{Nothing, YearInTime, QuarterInTime, YearOfA, PeriodOfA, FeinNew, FeinOfE, DateInQuarter, IdentityNew, CountOfS, WagesOfS, FileCountOfS, FileCountOfE, FileWagesOfS, FinalIfCurrent, More}
 use Rattle.edits.specs.declared.FurtherRule.TheVariants.{YearHeld, QuarterOfE, ListRoom, AccountOfE, QuarterEnd, SecondOfS}
 use Rattle.field.specs.declared.class.Further.TheVariants.{SocialSecurity, MaineCode, Licence, Difference}
+use Rattle.field.specs.declared.class.Field.{Field}
+use Rattle.edits.specs.FieldRow.{class_in, first_in, last_in}
 
 ruleset labels = (none_labelled, more_labelled, refl, unless_labelled, blanks_labelled, digits_labelled, names_labelled, choice_labelled, fine_labelled, period_labelled, flag_labelled, entity_labelled, state_labelled, zip_labelled, extension_labelled)
 
@@ -90,19 +91,19 @@ rule_labelled (More AccountOfE) landmarks around seen line first v = search labe
 rule_labelled (More QuarterEnd) landmarks around seen line first v = search labels
 rule_labelled (More SecondOfS) landmarks around seen line first v = search labels
 
-field_labelled : (a : Around) (line row : List ℕ) (which : ℕ) → AllLabelled (edits_of a line row which)
+field_labelled : (a : Around) (line : List ℕ) (row : Field) (which : Rule) → AllLabelled (edits_of a line row which)
 field_labelled a line row which =
-    let first = get_or row 1 0 in
-    let last = get_or row 2 0 in
-    labelled_append (own a.landmarks a.code (class_of (get_or row 0 0)) line first last)
-    (with_context (rule_of which) a.landmarks a.here a.seen line first last)
-    (own_labelled a.landmarks a.code (class_of (get_or row 0 0)) line first last)
-    (rule_labelled (rule_of which) a.landmarks a.here a.seen line first (value_in line first last))
+    let first = first_in row in
+    let last = last_in row in
+    labelled_append (own a.landmarks a.code (class_in row) line first last)
+    (with_context which a.landmarks a.here a.seen line first last)
+    (own_labelled a.landmarks a.code (class_in row) line first last)
+    (rule_labelled which a.landmarks a.here a.seen line first (value_in line first last))
 
-pub fields_labelled : (a : Around) (line : List ℕ) (rows : List (List ℕ)) (rules : List ℕ) → AllLabelled (field_edits a line rows rules)
+pub fields_labelled : (a : Around) (line : List ℕ) (rows : List Field) (rules : List Rule) → AllLabelled (field_edits a line rows rules)
 unfolding field_edits
 fields_labelled a line [] rules = none_labelled
 fields_labelled a line (row ∷ rows) [] =
-    labelled_append (edits_of a line row 0) (field_edits a line rows []) (field_labelled a line row 0) (fields_labelled a line rows [])
+    labelled_append (edits_of a line row Nothing) (field_edits a line rows []) (field_labelled a line row Nothing) (fields_labelled a line rows [])
 fields_labelled a line (row ∷ rows) (which ∷ rules) =
     labelled_append (edits_of a line row which) (field_edits a line rows rules) (field_labelled a line row which) (fields_labelled a line rows rules)

@@ -14,7 +14,6 @@ pub mod WithContext
 pub mod FieldRow
 pub mod FieldRowLaws
 pub mod RowTests
-pub mod RuleNumbers
 pub mod Tests
 pub mod RowTestLaws
 pub mod FieldLaws

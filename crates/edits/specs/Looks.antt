@@ -1,19 +1,18 @@
 -- Definitions: which columns of its record the edits of a field look at: computed tests of a set of columns, that it holds them all.
 use Rattle.std.specs.Prelude.{ℕ, zero, suc, ◌+◌, ◌-◌, Bool, true, false, ◌&&◌, List, length, get_or}
 use Rattle.chars.specs.Columns.{width_of}
-use Rattle.field.specs.Classes.{class_of}
 use Rattle.field.specs.declared.class.Class.{Class}
 use Rattle.field.specs.declared.class.Class.TheVariants.{Ignored, RecordLetter, BlankSpace, Numeric, AccountNumber, Flag, ThirdQuarterFlag, Period, RequiredText, OptionalText, PersonName, EntityCode, StateCode, ZipCode, ZipExtension, TaxYear, EmployerFein, IdentityNumber, CeaseDate, More}
 use Rattle.field.specs.declared.class.Further.{Further}
 use Rattle.field.specs.declared.class.Further.TheVariants.{SocialSecurity, MaineCode, Licence, Difference}
 use Rattle.edits.specs.FieldRow.{class_in, first_in, last_in}
-use Rattle.edits.specs.RuleNumbers.{rule_of}
 use Rattle.edits.specs.declared.FurtherLandmarks.{FurtherLandmarks}
 use Rattle.edits.specs.declared.FurtherRule.{FurtherRule}
 use Rattle.edits.specs.declared.FurtherRule.TheVariants.{YearHeld, QuarterOfE, ListRoom, AccountOfE, QuarterEnd, SecondOfS}
 use Rattle.edits.specs.declared.Landmarks.{Landmarks}
 use Rattle.edits.specs.declared.Rule.{Rule}
 use Rattle.edits.specs.declared.Rule.TheVariants.{Nothing, YearInTime, QuarterInTime, YearOfA, PeriodOfA, FeinNew, FeinOfE, DateInQuarter, IdentityNew, CountOfS, WagesOfS, FileCountOfS, FileCountOfE, FileWagesOfS, FinalIfCurrent, More as MoreRules}
+use Rattle.field.specs.declared.class.Field.{Field}
 
 module _ (shown : ℕ → Bool) where
   -- The set holds n columns, from the one after `at` on; all columns of a field; n columns from one on.
@@ -86,9 +85,9 @@ module _ (shown : ℕ → Bool) where
   rule_held landmarks (MoreRules which) first last = further_rule_held landmarks.further which first last
 
   -- Of field k, with its row and its rule.
-  abbrev pub row_held : Landmarks → List ℕ → List ℕ → ℕ → List ℕ → Bool
+  abbrev pub row_held : Landmarks → List ℕ → List Rule → ℕ → Field → Bool
   row_held landmarks code rules k row =
-      own_held landmarks code (class_of (class_in row)) (first_in row) (last_in row) && rule_held landmarks (rule_of (get_or rules k 0)) (first_in row) (last_in row)
+      own_held landmarks code (class_in row) (first_in row) (last_in row) && rule_held landmarks (get_or rules k Nothing) (first_in row) (last_in row)
 
 -- The rules that read no sum, and ask nothing of the employer list.
 abbrev pub further_no_sum : FurtherRule → Bool

@@ -1,6 +1,6 @@
 -- Laws: the edits of fields in two lines that are the same in the columns that these edits look at, and in two contexts that are the same but for the sums.
 use Prim.Native.Nat.{ℕ, zero, suc, ◌+◌, ◌-◌, ◌<◌, ◌≤◌}
-use Rattle.std.specs.Prelude.{Bool, ◌&&◌, List, [], ◌∷◌, ◌++◌, ◌≡◌, T, length, get_or, if◌then◌else◌}
+use Rattle.std.specs.Prelude.{Bool, ◌&&◌, List, ◌∷◌, ◌++◌, ◌≡◌, T, length, get_or, if◌then◌else◌}
 use Rattle.std.proofs.Math.Bool.{true, false}
 use Rattle.std.proofs.lemmas.Bool.{false≢true}
 use Rattle.std.proofs.Math.Path.{refl, ap}
@@ -8,7 +8,6 @@ use Rattle.std.proofs.Common.{sym, ap₂, ◌∙◌, arith}
 use Rattle.std.proofs.Math.Dec.{eqb}
 use borrow.Author.Tests.{eqb-true, eqb-false}
 use Rattle.laws.specs.ChoiceLaws.{both_hold}
-use Rattle.laws.specs.Lists.{any_default}
 use Rattle.laws.specs.Table.{every, at}
 use Rattle.chars.specs.Agree.{Agree, every_alike}
 use Rattle.chars.specs.Columns.{width_of}
@@ -19,8 +18,6 @@ use Rattle.number.specs.Numbers.{value_in}
 use Rattle.rules.specs.RuleLaws.{period_alike, flag_alike}
 use Rattle.text.specs.TextLaws.{pattern_alike, blank_alike, indented_alike, region_alike, zip_alike, extension_alike}
 use Rattle.text.specs.Address.{region_in}
-use Rattle.field.specs.Classes.{class_of}
-use Rattle.field.specs.ClassLaws.{class_again}
 use Rattle.field.specs.declared.class.Class.{Class}
 use Rattle.field.specs.declared.class.Class.TheVariants.{Ignored, RecordLetter, BlankSpace, Numeric, AccountNumber, Flag, ThirdQuarterFlag, Period, RequiredText, OptionalText, PersonName, EntityCode, StateCode, ZipCode, ZipExtension, TaxYear, EmployerFein, IdentityNumber, CeaseDate, More}
 use Rattle.field.specs.declared.class.Further.{Further}
@@ -30,12 +27,11 @@ use Rattle.edits.specs.Edit.{Edit, first_broken}
 use Rattle.edits.specs.EditLaws.{first_append}
 use Rattle.edits.specs.FieldEdits.{edits_of, field_edits}
 use Rattle.edits.specs.FieldEditLaws.{fields_cons, rows_same}
-use Rattle.edits.specs.FieldLaws.{rule_again}
 use Rattle.edits.specs.FieldRow.{row, no_row, class_in, first_in, last_in}
 use Rattle.edits.specs.Further.{further_own, further_edits, is_negative, digits_from}
 use Rattle.edits.specs.Looks.{holds_from, holds, holds_some, further_held, own_held, further_rule_held, rule_held, row_held, further_no_sum, reads_no_sum}
 use Rattle.edits.specs.Own.{own}
-use Rattle.edits.specs.RuleNumbers.{Around, rule_number, rule_of}
+use Rattle.edits.specs.declared.Around.{Around}
 use Rattle.edits.specs.WithContext.{rule_edits, with_context}
 use Rattle.edits.specs.declared.Context.{Context}
 use Rattle.edits.specs.declared.FurtherLandmarks.{FurtherLandmarks}
@@ -45,6 +41,7 @@ use Rattle.edits.specs.declared.Landmarks.{Landmarks}
 use Rattle.edits.specs.declared.Rule.{Rule}
 use Rattle.edits.specs.declared.Rule.TheVariants.{Nothing, YearInTime, QuarterInTime, YearOfA, PeriodOfA, FeinNew, FeinOfE, DateInQuarter, IdentityNew, CountOfS, WagesOfS, FileCountOfS, FileCountOfE, FileWagesOfS, FinalIfCurrent, More as MoreRules}
 use Rattle.edits.specs.declared.Seen.{Seen}
+use Rattle.field.specs.declared.class.Field.{Field}
 
 -- The same characters in every column that is shown.
 abbrev pub SameIn : (ℕ → Bool) → List ℕ → List ℕ → Type 0
@@ -171,16 +168,16 @@ module _ (shown : ℕ → Bool) (u v : List ℕ) (same : SameIn shown u v) where
     rule_alike landmarks (MoreRules which) first last e = further_rule_alike landmarks.further which first last e
 
   -- ---- the fields of a record, by one computed test
-  pub rows_alike : (a : Around) (rows : List (List ℕ)) (rules : List ℕ) → T (every (row_held shown a.landmarks a.code rules) [] 0 rows)
+  pub rows_alike : (a : Around) (rows : List Field) (rules : List Rule) → T (every (row_held shown a.landmarks a.code rules) no_row 0 rows)
       → field_edits a u rows rules ≡ field_edits a v rows rules
   rows_alike a rows rules test = rows_same a a u v rows rules each where
-    each : (k : ℕ) → k < length rows → edits_of a u (get_or rows k no_row) (get_or rules k 0) ≡ edits_of a v (get_or rows k no_row) (get_or rules k 0)
+    each : (k : ℕ) → k < length rows → edits_of a u (get_or rows k no_row) (get_or rules k Nothing) ≡ edits_of a v (get_or rows k no_row) (get_or rules k Nothing)
     each k h =
         let row = get_or rows k no_row in
-        let held : row_held shown a.landmarks a.code rules k row ≡ true = rw (any_default rows k no_row [] h) (at (row_held shown a.landmarks a.code rules) [] rows test k h) in
+        let held : row_held shown a.landmarks a.code rules k row ≡ true = at (row_held shown a.landmarks a.code rules) no_row rows test k h in
         let both = both_hold _ _ held in
-        ap₂ ◌++◌ (own_alike a.landmarks a.code (class_of (class_in row)) (first_in row) (last_in row) both.0)
-        (rule_alike a.here a.seen a.landmarks (rule_of (get_or rules k 0)) (first_in row) (last_in row) both.1)
+        ap₂ ◌++◌ (own_alike a.landmarks a.code (class_in row) (first_in row) (last_in row) both.0)
+        (rule_alike a.here a.seen a.landmarks (get_or rules k Nothing) (first_in row) (last_in row) both.1)
 
 -- ---- a rule in two contexts
 further_rule_context : (which : FurtherRule) → further_no_sum which ≡ true → (here : Context) (marks : FurtherLandmarks) (text : List ℕ) (first v : ℕ)
@@ -221,8 +218,8 @@ rule_in_contexts which e here here' seen seen' same asked landmarks text first v
     ∙ sym (no_sum_read which e here' seen' landmarks text first v)
 
 -- The fields of a record, none of whose rules reads a sum.
-abbrev pub row_no_sum : List ℕ → ℕ → List ℕ → Bool
-row_no_sum rules k row = reads_no_sum (rule_of (get_or rules k 0))
+abbrev pub row_no_sum : List Rule → ℕ → Field → Bool
+row_no_sum rules k row = reads_no_sum (get_or rules k Nothing)
 
 module _ (landmarks : Landmarks) (code : List ℕ) (here here' : Context) (same : without_sums here ≡ without_sums here') (seen seen' : Seen) (asked : seen.id ≡ seen'.id) where
   abbrev one : Around
@@ -231,30 +228,30 @@ module _ (landmarks : Landmarks) (code : List ℕ) (here here' : Context) (same 
   abbrev other : Around
   other = record { landmarks = landmarks; code = code; here = here'; seen = seen' }
 
-  pub rows_in_contexts : (text : List ℕ) (rows : List (List ℕ)) (rules : List ℕ) → T (every (row_no_sum rules) [] 0 rows)
+  pub rows_in_contexts : (text : List ℕ) (rows : List Field) (rules : List Rule) → T (every (row_no_sum rules) no_row 0 rows)
       → field_edits one text rows rules ≡ field_edits other text rows rules
   rows_in_contexts text rows rules test = rows_same one other text text rows rules (λ k h.
       let row = get_or rows k no_row in
-      ap (λ (context : List Edit). own landmarks code (class_of (class_in row)) text (first_in row) (last_in row) ++ context)
-      (rule_in_contexts (rule_of (get_or rules k 0)) (at (row_no_sum rules) [] rows test k h) here here' seen seen' same asked landmarks text (first_in row) (value_in text (first_in row) (last_in row))))
+      ap (λ (context : List Edit). own landmarks code (class_in row) text (first_in row) (last_in row) ++ context)
+      (rule_in_contexts (get_or rules k Nothing) (at (row_no_sum rules) no_row rows test k h) here here' seen seen' same asked landmarks text (first_in row) (value_in text (first_in row) (last_in row))))
 
   -- ---- two records that are the same in the columns that are shown, field after field
   module _ (u v : List ℕ) where
     -- A field whose edits find the same in both,
-    pub next_alike : (class : Class) (which : Rule) (first last : ℕ) (rows : List (List ℕ)) (rules : List ℕ)
+    pub next_alike : (class : Class) (which : Rule) (first last : ℕ) (rows : List Field) (rules : List Rule)
         → first_broken (own landmarks code class u first last) ≡ first_broken (own landmarks code class v first last)
         → first_broken (with_context which landmarks here seen u first last) ≡ first_broken (with_context which landmarks here' seen' v first last)
         → first_broken (field_edits one u rows rules) ≡ first_broken (field_edits other v rows rules)
-        → first_broken (field_edits one u (row class first last ∷ rows) (rule_number which ∷ rules))
-        ≡ first_broken (field_edits other v (row class first last ∷ rows) (rule_number which ∷ rules))
-    next_alike class which first last rows rules p q rest = simp (fields_cons, first_append, class_again class, rule_again which, p, q, rest)
+        → first_broken (field_edits one u (row class first last ∷ rows) (which ∷ rules))
+        ≡ first_broken (field_edits other v (row class first last ∷ rows) (which ∷ rules))
+    next_alike class which first last rows rules p q rest = simp (fields_cons, first_append, p, q, rest)
 
     -- and one whose edits look at columns that are shown, by a computed test.
-    pub next_shown : (shown : ℕ → Bool) → SameIn shown u v → (class : Class) (which : Rule) (first last : ℕ) (rows : List (List ℕ)) (rules : List ℕ)
+    pub next_shown : (shown : ℕ → Bool) → SameIn shown u v → (class : Class) (which : Rule) (first last : ℕ) (rows : List Field) (rules : List Rule)
         → own_held shown landmarks code class first last && (rule_held shown landmarks which first last && reads_no_sum which) ≡ true
         → first_broken (field_edits one u rows rules) ≡ first_broken (field_edits other v rows rules)
-        → first_broken (field_edits one u (row class first last ∷ rows) (rule_number which ∷ rules))
-        ≡ first_broken (field_edits other v (row class first last ∷ rows) (rule_number which ∷ rules))
+        → first_broken (field_edits one u (row class first last ∷ rows) (which ∷ rules))
+        ≡ first_broken (field_edits other v (row class first last ∷ rows) (which ∷ rules))
     next_shown shown shows class which first last rows rules e =
         let own_held = both_hold _ _ e in
         let held = both_hold _ _ own_held.1 in

@@ -8,18 +8,19 @@ use Rattle.number.specs.Numbers.{number_in, value_in}
 use Rattle.rules.specs.Rules.{year_in, period_in, flag_in, fein_in, identity_in}
 use Rattle.text.specs.Text.{entity_test}
 use Rattle.text.specs.Address.{region_in, state_test, zip_test, extension_test}
-use Rattle.field.specs.Classes.{class_of}
 use Rattle.field.specs.ClassTests.{class_test}
 use Rattle.field.specs.declared.class.Class.{Class}
 use Rattle.field.specs.declared.class.Class.TheVariants.{Ignored, RecordLetter, BlankSpace, Numeric, AccountNumber, Flag, ThirdQuarterFlag, Period, RequiredText, OptionalText, PersonName, EntityCode, StateCode, ZipCode, ZipExtension, TaxYear, EmployerFein, IdentityNumber, CeaseDate, More}
 use Rattle.edits.specs.Edit.{first_broken}
-use Rattle.edits.specs.FieldRow.{no_row}
-use Rattle.edits.specs.RuleNumbers.{Around, rule_of}
+use Rattle.edits.specs.FieldRow.{no_row, class_in, first_in, last_in}
+use Rattle.edits.specs.declared.Around.{Around}
 use Rattle.edits.specs.FurtherTests.{further_rest}
 use Rattle.edits.specs.Own.{is_final}
 use Rattle.edits.specs.WithContext.{with_context}
 use Rattle.edits.specs.declared.Landmarks.{Landmarks}
 use Rattle.edits.specs.declared.Rule.{Rule}
+use Rattle.field.specs.declared.class.Field.{Field}
+use Rattle.edits.specs.declared.Rule.TheVariants.{Nothing}
 
 -- What the rules of a date find, given its reading.
 abbrev pub cease_rules : Bool → ℕ → ℕ → Finding
@@ -71,12 +72,12 @@ unfoldable pub field_test : Around → List ℕ → Class → Rule → ℕ → �
 field_test a line class which first last = or_else (class_test class line first last) (rules_test a line class which first last)
 
 -- Field k of a list of rows and rules.
-unfoldable pub field_at : Around → List ℕ → List (List ℕ) → List ℕ → ℕ → Finding
+unfoldable pub field_at : Around → List ℕ → List Field → List Rule → ℕ → Finding
 field_at a line rows rules k =
-    field_test a line (class_of (get_or (get_or rows k no_row) 0 0)) (rule_of (get_or rules k 0)) (get_or (get_or rows k no_row) 1 0) (get_or (get_or rows k no_row) 2 0)
+    field_test a line (class_in (get_or rows k no_row)) (get_or rules k Nothing) (first_in (get_or rows k no_row)) (last_in (get_or rows k no_row))
 
 -- "the first broken column of the first broken field"
-unfoldable pub fields_test : Around → List ℕ → List (List ℕ) → List ℕ → Finding
+unfoldable pub fields_test : Around → List ℕ → List Field → List Rule → Finding
 fields_test a line rows rules = first_of (field_at a line rows rules) 0 (length rows)
 
 -- The columns may read as a number: there is one, and there are at most 19.
@@ -107,5 +108,5 @@ Wide ZipExtension first last = Unit {0}
 Wide (More class) first last = Unit {0}
 
 -- Every row is as wide as its class asks.
-abbrev pub AllWide : List (List ℕ) → Type 0
-AllWide rows = (k : ℕ) → k < length rows → Wide (class_of (get_or (get_or rows k no_row) 0 0)) (get_or (get_or rows k no_row) 1 0) (get_or (get_or rows k no_row) 2 0)
+abbrev pub AllWide : List Field → Type 0
+AllWide rows = (k : ℕ) → k < length rows → Wide (class_in (get_or rows k no_row)) (first_in (get_or rows k no_row)) (last_in (get_or rows k no_row))

@@ -1,133 +1,41 @@
 // The fields of a record in order: the first broken column of the first broken field.
-ghost use Rattle.std.specs.Prelude.{◌≡◌, ◌-◌, get_or};
-ghost use Rattle.laws.specs.Finding.{first_of};
+#![tactic(auto, unfolding(crate::specs::Tests::rules_test, crate::specs::Tests::field_test))]
+
+ghost use Rattle.std.specs.Prelude.{◌≡◌};
 ghost use Rattle.reason.specs.ReasonNumbers.{finding_of};
 ghost use Rattle.chars.specs.Characters.{capitals};
-ghost use Rattle.chars.specs.Columns.{allowed_test, every_column};
-ghost use Rattle.edits.specs.FieldRow.{no_row};
-ghost use Rattle.edits.specs.RuleNumbers.{rule_of};
-ghost use Rattle.edits.specs.Tests.{rules_test, fields_test};
+ghost use Rattle.edits.specs.Tests.{rules_test, field_test, fields_test};
 
-use crate::{Context, FurtherRule, Landmarks, Rule, Seen, held_by, own, rows, with_context};
-use chars::columns;
-use chars::columns::Allowed;
+use crate::{Around, Rule, own, with_context};
 use field::class;
-use field::class::Class;
+use field::class::Field;
 use reason::Edit;
 
-// The rule of a number.
-pub fn rule_of(number: u8) -> Rule
-    ensures { result ≡ rule_of number }
-{
-    match number {
-        held_by::YEAR_IN_TIME => Rule::YearInTime,
-        held_by::QUARTER_IN_TIME => Rule::QuarterInTime,
-        held_by::YEAR_OF_A => Rule::YearOfA,
-        held_by::PERIOD_OF_A => Rule::PeriodOfA,
-        held_by::FEIN_NEW => Rule::FeinNew,
-        held_by::FEIN_OF_E => Rule::FeinOfE,
-        held_by::DATE_IN_QUARTER => Rule::DateInQuarter,
-        held_by::IDENTITY_NEW => Rule::IdentityNew,
-        held_by::COUNT_OF_S => Rule::CountOfS,
-        held_by::WAGES_OF_S => Rule::WagesOfS,
-        held_by::FILE_COUNT_OF_S => Rule::FileCountOfS,
-        held_by::FILE_COUNT_OF_E => Rule::FileCountOfE,
-        held_by::FILE_WAGES_OF_S => Rule::FileWagesOfS,
-        held_by::FINAL_IF_CURRENT => Rule::FinalIfCurrent,
-        held_by::YEAR_HELD => Rule::More(FurtherRule::YearHeld),
-        held_by::QUARTER_OF_E => Rule::More(FurtherRule::QuarterOfE),
-        held_by::LIST_ROOM => Rule::More(FurtherRule::ListRoom),
-        held_by::ACCOUNT_OF_E => Rule::More(FurtherRule::AccountOfE),
-        held_by::QUARTER_END => Rule::More(FurtherRule::QuarterEnd),
-        held_by::SECOND_OF_S => Rule::More(FurtherRule::SecondOfS),
-        _ => Rule::Nothing,
-    }
-}
-
-// A number of a list, 0 past its end.
-fn number_at(numbers: &[u8], k: usize) -> u8
-    ensures { result ≡ get_or numbers.now k 0 }
-{
-    if k < numbers.len() {
-        return numbers[k];
-    }
-    0
-}
-
 // The rules of a field after its class test: its own, then those of the context.
-fn rules_edit(
-    landmarks: Landmarks,
-    code: [u8; 4],
-    here: Context,
-    seen: Seen,
-    line: &[u8],
-    class: Class,
-    rule: Rule,
-    first: u16,
-    last: u16,
-) -> Edit
-    ensures { finding_of result ≡ rules_test (record { landmarks = landmarks; code = code; here = here; seen = seen }) (capitals line.now) class rule first last }
+fn rules_edit(around: &Around, line: &[u8], field: Field, rule: Rule) -> Edit
+    ensures { finding_of result ≡ rules_test around.now (capitals line.now) field.class rule field.first field.last }
 {
-    let e = own::own_edit(landmarks, code, class, line, first, last);
-    match e {
-        Edit::Broken(_, _) => e,
-        Edit::Passed => with_context::context_edit(rule, landmarks, here, seen, line, first, last),
-    }
+    own::own_edit(around.landmarks, around.code, line, field)?;
+    with_context::context_edit(rule, around, line, field)
 }
 
-// Where to look for a broken column from: after the last one, where every column holds what it may;
-// else at the first.
-fn look_from(allowed: Allowed, line: &[u8], first: u16, last: u16) -> u16
-    ensures { every_column allowed (capitals line.now) first last ≡ first_of (allowed_test allowed (capitals line.now)) result (last - result) }
+// A field: its class test, then its rules.
+fn field_edit(around: &Around, line: &[u8], field: Field, rule: Rule) -> Edit
+    ensures { finding_of result ≡ field_test around.now (capitals line.now) field.class rule field.first field.last }
 {
-    if columns::all_hold(allowed, line, first, last) {
-        return last;
-    }
-    chars::index_of(first)
+    class::class_edit(line, field)?;
+    rules_edit(around, line, field, rule)
 }
 
-// The first broken column of the first broken field. A row of the list has a field's class, first
-// and last column; the rule beside it, by number, is that of its context.
-pub fn first_broken(
-    landmarks: Landmarks,
-    code: [u8; 4],
-    here: Context,
-    seen: Seen,
-    line: &[u8],
-    rows: &[[u16; 3]],
-    rules: &[u8],
-) -> Edit
-    ensures { finding_of result ≡ fields_test (record { landmarks = landmarks; code = code; here = here; seen = seen }) (capitals line.now) rows.now rules.now }
+// The first broken column of the first broken field. The rule beside a field in its list is that of
+// its context; a field past the end of the rules has none. The rules are a list of their own, as the
+// definitions have them: the fields are document 000's tables, the rules document 01's.
+pub fn first_broken(around: &Around, line: &[u8], rows: &[Field], rules: &[Rule]) -> Edit
+    ensures { finding_of result ≡ fields_test around.now (capitals line.now) rows.now rules.now }
 {
-    let mut found = Edit::Passed;
-    let mut k = 0;
-    'fields: while k < rows.len() {
-        let row = rows::row_at(rows, k);
-        let class = class::class_of(row[0]);
-        let first = row[1];
-        let last = row[2];
-        let lead = class::lead_edit(class, line, first, last);
-        if let Edit::Broken(_, _) = lead {
-            found = lead;
-            break 'fields;
-        }
-        let allowed = class::allowed_in(class, line, first, last);
-        let mut at = look_from(allowed, line, first, last);
-        while at < last {
-            let e = columns::column_edit(allowed, line, at + 1);
-            if let Edit::Broken(_, _) = e {
-                found = e;
-                break 'fields;
-            }
-            at += 1;
-        }
-        let rule = rule_of(number_at(rules, k));
-        let e = rules_edit(landmarks, code, here, seen, line, class, rule, first, last);
-        if let Edit::Broken(_, _) = e {
-            found = e;
-            break 'fields;
-        }
-        k += 1;
+    for (k, field) in rows.iter().enumerate() {
+        let rule = rules.get(k).copied().unwrap_or(Rule::Nothing);
+        field_edit(around, line, *field, rule)?;
     }
-    found
+    Ok(())
 }

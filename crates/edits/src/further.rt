@@ -1,4 +1,6 @@
 // The rules of classes and of the context that PFML has not.
+#![tactic(auto, unfolding(crate::specs::FurtherTests::difference_test, crate::specs::FurtherTests::licence_test))]
+
 ghost use Rattle.std.specs.Prelude.{◌≡◌};
 ghost use Rattle.reason.specs.ReasonNumbers.{finding_of};
 ghost use Rattle.chars.specs.Characters.{capitals};
@@ -6,12 +8,12 @@ ghost use Rattle.edits.specs.Edit.{first_broken};
 ghost use Rattle.edits.specs.Further.{is_negative, digits_from, is_difference, is_first_e, quarter_of_e, is_account, further_edits};
 ghost use Rattle.edits.specs.FurtherTests.{licence_test, difference_test, further_rest};
 
-use crate::{Context, FurtherLandmarks, FurtherRule, Phase, format};
+use crate::{Around, Context, FurtherLandmarks, FurtherRule, Phase, format};
 use calendar::Quarter;
 use chars::columns;
 use chars::columns::Allowed;
 use field::class::Further;
-use number::{Number, letters};
+use number::letters;
 use reason::{Edit, Reason};
 
 // ---- own rules, after the class test
@@ -29,10 +31,7 @@ fn licence_edit(marks: FurtherLandmarks, line: &[u8], first: u16, last: u16) -> 
 fn is_negative(line: &[u8], first: u16, last: u16) -> bool
     ensures { result ≡ is_negative (capitals line.now) first last }
 {
-    if first < last {
-        return chars::char_at(line, chars::index_of(first) as usize) == b'-';
-    }
-    false
+    first < last && chars::char_at(line, chars::index_of(first) as usize) == b'-'
 }
 
 // The column from which on digits are asked.
@@ -49,15 +48,9 @@ fn is_difference(negative: bool, amount: u64, whole: u64, part: u64) -> bool
     ensures { result ≡ is_difference negative amount whole part }
 {
     if negative {
-        if part < whole {
-            return false;
-        }
-        return part - whole == amount;
+        return whole <= part && part - whole == amount;
     }
-    if whole < part {
-        return false;
-    }
-    whole - part == amount
+    part <= whole && whole - part == amount
 }
 
 // The amount is the whole less the part, where the whole reads as a number.
@@ -65,13 +58,9 @@ fn difference_edit(marks: FurtherLandmarks, line: &[u8], first: u16, last: u16) 
     ensures { finding_of result ≡ difference_test marks (capitals line.now) first last }
 {
     let from = digits_from(line, first, last);
-    let e = columns::every_column(Allowed::Digits, line, from, last);
-    if let Edit::Broken(_, _) = e {
-        return e;
-    }
-    let n = number::read_number(line, marks.whole_first, marks.whole_last);
-    let Number::Value(whole) = n else {
-        return Edit::Passed;
+    columns::every_column(Allowed::Digits, line, from, last)?;
+    let Ok(whole) = number::read_number(line, marks.whole_first, marks.whole_last) else {
+        return Ok(());
     };
     let part = number::value_in(line, marks.part_first, marks.part_last);
     let amount = number::value_in(line, from, last);
@@ -107,23 +96,15 @@ pub fn own_edit(marks: FurtherLandmarks, class: Further, line: &[u8], first: u16
 fn is_first_e(phase: Phase) -> bool
     ensures { result ≡ is_first_e phase }
 {
-    match phase {
-        Phase::BeforeA => false,
-        Phase::AfterA => true,
-        Phase::EOpen => false,
-        Phase::AfterT => false,
-        Phase::AfterF => false,
-    }
+    matches!(phase, Phase::AfterA)
 }
 
-fn quarter_of_e(here: Context, month: u64, first: u16) -> Edit
-    ensures { finding_of result ≡ first_broken (quarter_of_e here month first) }
+fn quarter_of_e(here: &Context, month: u64, first: u16) -> Edit
+    ensures { finding_of result ≡ first_broken (quarter_of_e here.now month first) }
 {
-    let filed = here.filed;
-    let phase = here.phase;
-    if is_first_e(phase) {
+    if is_first_e(here.phase) {
         let told = Quarter {
-            year: filed.year,
+            year: here.filed.year,
             month,
         };
         let held = format::quarter_held(here.held);
@@ -133,47 +114,39 @@ fn quarter_of_e(here: Context, month: u64, first: u16) -> Edit
             Reason::PeriodTooLate,
         );
     }
-    columns::unless(month == filed.month, first, Reason::PeriodNotOfA)
+    columns::unless(month == here.filed.month, first, Reason::PeriodNotOfA)
 }
 
-fn is_account(here: Context, marks: FurtherLandmarks, line: &[u8], first: u16) -> bool
-    ensures { result ≡ is_account here marks (capitals line.now) first }
+fn is_account(here: &Context, marks: FurtherLandmarks, line: &[u8], first: u16) -> bool
+    ensures { result ≡ is_account here.now marks (capitals line.now) first }
 {
-    let open = here.open;
-    if letters::letters_in(line, first, marks.head_last) != open.account_head {
-        return false;
-    }
-    letters::letters_in(line, marks.tail_first, marks.tail_last) == open.account_tail
+    letters::letters_in(line, first, marks.head_last) == here.open.account_head
+        && letters::letters_in(line, marks.tail_first, marks.tail_last) == here.open.account_tail
 }
 
 // The edits of a rule in order; v is the field's value.
-pub fn rule_edit(
-    rule: FurtherRule,
-    marks: FurtherLandmarks,
-    here: Context,
-    line: &[u8],
-    first: u16,
-    v: u64,
-) -> Edit
-    ensures { finding_of result ≡ first_broken (further_edits rule marks here (capitals line.now) first v) }
+pub fn rule_edit(rule: FurtherRule, around: &Around, line: &[u8], first: u16, v: u64) -> Edit
+    ensures { finding_of result ≡ first_broken (further_edits rule around.now.landmarks.further around.now.here (capitals line.now) first v) }
 {
-    let held = here.held;
-    let filed = here.filed;
-    let open = here.open;
+    let here = &around.here;
     match rule {
-        FurtherRule::YearHeld => columns::unless(v <= held.year, first, Reason::YearTooLate),
+        FurtherRule::YearHeld => columns::unless(v <= here.held.year, first, Reason::YearTooLate),
         FurtherRule::QuarterOfE => quarter_of_e(here, v, first),
         FurtherRule::ListRoom => columns::unless(!here.list_full, first, Reason::EmployerListFull),
         FurtherRule::AccountOfE => columns::unless(
-            is_account(here, marks, line, first),
+            is_account(here, around.landmarks.further, line, first),
             first,
             Reason::FeinNotOfE,
         ),
         FurtherRule::QuarterEnd => columns::unless(
-            calendar::is_last_day(v, filed),
+            calendar::is_last_day(v, here.filed),
             first,
             Reason::DepositNotOfQuarter,
         ),
-        FurtherRule::SecondOfS => columns::unless(v == open.second, first, Reason::WagesNotOfS),
+        FurtherRule::SecondOfS => columns::unless(
+            v == here.open.second,
+            first,
+            Reason::WagesNotOfS,
+        ),
     }
 }

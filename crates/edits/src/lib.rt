@@ -4,7 +4,6 @@
 pub mod fields;
 pub mod format;
 pub mod further;
-pub mod held_by;
 pub mod own;
 pub mod rows;
 pub mod with_context;
@@ -13,7 +12,7 @@ use calendar::Quarter;
 use format::Format;
 
 // Where a line stands: before A; after A, before any E; under an E; after a T; after F.
-#[derive(Clone, Copy)]
+#[derive(Clone, Copy, PartialEq, Eq)]
 pub enum Phase {
     BeforeA,
     AfterA,
@@ -23,7 +22,7 @@ pub enum Phase {
 }
 
 // What a walk is opened with: the format of the file, and the last closed quarter.
-#[derive(Clone, Copy)]
+#[derive(Clone, Copy, PartialEq, Eq)]
 pub struct Opening {
     pub format: Format,
     pub year: u64,
@@ -34,7 +33,7 @@ pub struct Opening {
 // sum of their wages in cents. The other numbers are those of formats to come, and zero in PFML: a
 // second sum; the records under it that are no S, and the nearest of these; whether a note was
 // among them; and the account number as two numbers to the base 256.
-#[derive(Clone, Copy)]
+#[derive(Clone, Copy, PartialEq, Eq, Default)]
 pub struct Open {
     pub fein: u64,
     pub follow: bool,
@@ -51,7 +50,7 @@ pub struct Open {
 // The whole file so far: its S records, its E records, and the sum of all wages in cents. The other
 // numbers are those of formats to come, and zero in PFML: the second sum, the records that are no
 // S, and the notes.
-#[derive(Clone, Copy)]
+#[derive(Clone, Copy, PartialEq, Eq, Default)]
 pub struct Totals {
     pub count: u64,
     pub employers: u64,
@@ -77,10 +76,20 @@ pub struct Context {
 
 // Whether the FEIN on the line stands on an earlier E, and whether the identity number on it stands
 // under the open E.
-#[derive(Clone, Copy)]
+#[derive(Clone, Copy, PartialEq, Eq, Default)]
 pub struct Seen {
     pub fein: bool,
     pub id: bool,
+}
+
+// What stands around a record's fields: the columns that its rules look at, the entity code, the
+// context and what was seen.
+#[derive(Clone, Copy)]
+pub struct Around {
+    pub landmarks: Landmarks,
+    pub code: [u8; 4],
+    pub here: Context,
+    pub seen: Seen,
 }
 
 // The columns of a record that the rules of its other fields look at; 0 where it has no such field.
@@ -124,8 +133,9 @@ pub const NONE_FURTHER: FurtherLandmarks = FurtherLandmarks {
 };
 
 // The rule by which a field is held against its context.
-#[derive(Clone, Copy)]
+#[derive(Clone, Copy, PartialEq, Eq)]
 pub enum Rule {
+    // Most fields have it. It is a variant and no `None`: a table would write `Some` before each other.
     Nothing,
     YearInTime,
     QuarterInTime,
@@ -146,7 +156,7 @@ pub enum Rule {
 }
 
 // The rules that PFML has not.
-#[derive(Clone, Copy)]
+#[derive(Clone, Copy, PartialEq, Eq)]
 pub enum FurtherRule {
     // A's year is not after that of the last closed quarter.
     YearHeld,

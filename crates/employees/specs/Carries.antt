@@ -1,5 +1,5 @@
 -- Laws: a run is what a call for each of its lines would do: whatever each such call carries on, the run carries on.
-use Rattle.std.specs.Prelude.{ℕ, zero, suc, ◌+◌, ◌≤◌, Bool, true, false, List, [], ◌≡◌, refl, eqb, length, drop, if◌then◌else◌}
+use Rattle.std.specs.Prelude.{ℕ, zero, suc, ◌+◌, ◌≤◌, Bool, true, false, List, [], ◌≡◌, refl, eqb, length, drop, if◌then◌else◌, Result, Ok, Err}
 use Rattle.std.proofs.Common.{sym, ap, ◌∙◌, eq-eqb, ne_eqb}
 use Rattle.reason.specs.ReasonNumbers.{Notice}
 use Rattle.lines.specs.Lines.{first_line}
@@ -18,8 +18,7 @@ use Rattle.step.specs.Moves.{Moved, all_well, notice_in, taken_in, walk_after, c
 use Rattle.step.specs.Steps.{Out, ids_after, list_after, carried, listed_fein, listed_id, line_step}
 use Rattle.step.specs.declared.Answer.{Answer}
 use Rattle.step.specs.declared.Change.TheVariants.{Nothing, Adds}
-use Rattle.step.specs.declared.Reply.{Reply}
-use Rattle.step.specs.declared.Reply.TheVariants.{Fine, Refused}
+use Rattle.reason.specs.declared.Refusal.{Refusal}
 use Rattle.employees.specs.RunLaws.{Taking, takes_parts, plain_line, room_for, onward, sight_at, takes_at, next, none_left, goes_on_lem, stops}
 use Rattle.employees.specs.Runs.{sight_under, said_in, Reached, reaches, reached_by, Left, left_by, left_at, behind}
 use Rattle.employees.specs.declared.Run.{Run}
@@ -106,14 +105,14 @@ behind_nothing n o = at (eqb o.taken 0) where
   at false = ap (left_at o.says) (none_left [] n (record { at = o.taken; walk = o.walk; ids = o.ids }))
 
 -- A call that took bytes refused nothing.
-fine_says : (reply : Reply) → (taken_in reply ≡ 0 → ⊥) → notice_in reply ≡ all_well
-fine_says (Fine bytes) some = refl
-fine_says (Refused why) some = absurd (some refl)
+fine_says : (reply : Result ℕ Refusal) → (taken_in reply ≡ 0 → ⊥) → notice_in reply ≡ all_well
+fine_says (Ok bytes) some = refl
+fine_says (Err why) some = absurd (some refl)
 
 -- What the code answers after a line that was taken.
 pub behind_run : (s : List ℕ) (n : ℕ) (a : Answer) (ids : List ℕ) (run : Run) (more : List ℕ) → (taken_in a.reply ≡ 0 → ⊥)
     → reached_by run more ≡ reaches s n (length s) (taken_in a.reply) (walk_of a.state) ids
-    → left_by (record { state = run.state; reply = Fine run.at }) more ≡ behind s n (left_by a ids)
+    → left_by (record { state = run.state; reply = Ok run.at }) more ≡ behind s n (left_by a ids)
 behind_run s n a ids run more some e =
     ap (left_at all_well) e
     ∙ ap (λ (says : Notice). left_at says (reaches s n (length s) (taken_in a.reply) (walk_of a.state) ids)) (sym (fine_says a.reply some))

@@ -1,8 +1,8 @@
 -- Laws: what a turn of the run's loop does: what holds at each line of a run, and what the line leaves.
-use Rattle.std.specs.Prelude.{ℕ, suc, ◌+◌, ◌-◌, ◌≤◌, ◌<◌, ◌^◌, Bool, true, false, not, ◌&&◌, List, ◌≡◌, eqb, length, take, drop}
-use Rattle.std.proofs.Common.{sym, ap, ◌∙◌, arith, length-drop}
-use Rattle.plain.specs.Laws.{id_below, taken_within}
-use Rattle.plain.specs.Plain.{sight}
+use Rattle.std.specs.Prelude.{ℕ, suc, ◌+◌, ◌-◌, ◌≤◌, ◌<◌, ◌^◌, Bool, true, false, not, ◌&&◌, List, ◌≡◌, refl, eqb, length, take, drop, None}
+use Rattle.std.proofs.Common.{sym, ap, ◌∙◌, arith, eq-eqb, ne_eqb, length-drop}
+use Rattle.plain.specs.Laws.{id_below, taken_within, none_seen}
+use Rattle.plain.specs.Plain.{sight, seen}
 use Rattle.plain.specs.declared.Sighted.{Sighted}
 use Rattle.state.specs.Walks.{Walk}
 use Rattle.step.specs.Moves.{walk_after, change_by}
@@ -86,3 +86,14 @@ module _ (bytes low high : List ℕ) (list most left : ℕ) (first r : Reached) 
       → walk ≡ walk_after (said_in v) r.walk → ids ≡ ids_after (change_by (said_in v) r.walk) r.ids → more ≡ with_mark v.id marks
       → Going bytes low high list most (left - 1) first (record { at = r.at + v.taken; walk = walk; ids = ids }) more
   still_going e some walk ids more walked kept marked = rw (walked, kept, marked) (goes_behind e some)
+
+-- Where something is seen there are bytes, and the rest of what is asked decides.
+pub taken_is : (v : Sighted) (walk : Walk) (ids : List ℕ) → (v.taken ≡ 0 → ⊥) → is_taken v walk ids ≡ has_room walk && is_new walk ids v.id
+taken_is v walk ids some = rw (ne_eqb v.taken 0 some)
+
+-- Where nothing is seen the run has come to its end.
+pub ends_unseen : (bytes low high : List ℕ) (list most left : ℕ) (first r : Reached) (marks : List ℕ) → Going bytes low high list most left first r marks
+    → seen low high (drop r.at bytes) ≡ None → r ≡ onward bytes list most first
+ends_unseen bytes low high list most left first r marks g none =
+    let v = sight low high (drop r.at bytes) in
+    ends_here bytes low high list most left first r marks g v refl (rw (eq-eqb v.taken 0 (none_seen low high (drop r.at bytes) none)))

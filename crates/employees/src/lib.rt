@@ -6,7 +6,7 @@ mod marks;
 ghost use Rattle.std.specs.Prelude.{◌+◌, ◌≤◌, ◌<◌, ◌^◌, not, ◌&&◌, ◌||◌, ◌⊎◌, ◌≡◌, eqb, ltb, length, take, drop};
 ghost use Rattle.tables.specs.Tables.{is_among};
 ghost use Rattle.state.specs.Walks.{walk_of};
-ghost use Rattle.shape.specs.After.{one_used};
+ghost use Rattle.shape.specs.declared.Said.TheVariants.{OfS};
 ghost use Rattle.step.specs.Moves.{walk_after, change_by};
 ghost use Rattle.step.specs.Ready.{Ready};
 ghost use Rattle.step.specs.Steps.{ids_after};
@@ -16,9 +16,10 @@ ghost use Rattle.employees.specs.RunLaws.{Prepared, onward};
 
 use edits::{Open, Phase, Totals, format};
 use pfml::fitness::MOST_LINES;
-use plain::Sighted;
+use plain::{Sighted, Template};
+use shape::EmployeeOn;
 use state::{Stage, State, fitness};
-use step::{Answer, Reply};
+use step::Answer;
 
 // Where a run stopped: at a place of the bytes, in a state.
 #[derive(Clone, Copy)]
@@ -32,34 +33,18 @@ pub struct Run {
 fn awaits(st: State, ids: usize, list: usize) -> bool
     ensures { result ≡ awaits (record { ids = ids; list = list }) (walk_of st) }
 {
-    let held = st.held;
-    let format = held.format;
-    let stage = st.stage;
-    let open = st.open;
-    if !format::is_pfml(format) {
-        return false;
-    }
-    if !fitness::is_open(stage) {
-        return false;
-    }
-    if !open.follow {
-        return false;
-    }
-    if fitness::is_unfit(st, ids, list) {
-        return false;
-    }
-    plain::fits(open.fein, st.filed)
+    format::is_pfml(st.held.format)
+        && fitness::is_open(st.stage)
+        && st.open.follow
+        && !fitness::is_unfit(st, ids, list)
+        && plain::fits(st.open.fein, st.filed)
 }
 
 // One line more, and one S record more.
 fn has_room(st: State) -> bool
     ensures { result ≡ has_room (walk_of st) }
 {
-    let all = st.all;
-    if all.count < shape::MOST_EMPLOYEES {
-        return st.lines < MOST_LINES;
-    }
-    false
+    st.all.count < shape::MOST_EMPLOYEES && st.lines < MOST_LINES
 }
 
 // The identity number is none, or new and there is room for it. It is looked for only where it is
@@ -74,71 +59,51 @@ fn is_new(ids: &[u32], used: usize, marks: &[u8], id: u64) -> bool
     if ids.len() <= used {
         return false;
     }
-    if marks::is_marked(marks, id) {
-        return !tables::ids::has(ids, used, id as u32);
-    }
-    true
+    !(marks::is_marked(marks, id) && tables::ids::has(ids, used, id as u32))
 }
 
 // Whether the line is taken by a walk that awaits S records.
 fn takes(st: State, s: Sighted, ids: &[u32], marks: &[u8]) -> bool
     requires { (s.id < 4294967296) × Covers marks.now (take st.used ids.now) }
-    ensures { result ≡ (not (eqb s.taken 0) && (has_room (walk_of st) && is_new (walk_of st) ids.now s.id)) }
+    ensures { result ≡ (has_room (walk_of st) && is_new (walk_of st) ids.now s.id) }
 {
-    if s.taken == 0 {
-        return false;
-    }
-    if has_room(st) {
-        return is_new(ids, st.used, marks, s.id);
-    }
-    false
+    has_room(st) && is_new(ids, st.used, marks, s.id)
 }
 
-fn one_used(used: usize, id: u64) -> usize
-    requires { (id ≡ 0) ⊎ (used + 1 < 2 ^ 64) }
-    ensures { result ≡ one_used used id }
+// What an S record of PFML says: it has no second amount.
+fn said_in(s: Sighted) -> EmployeeOn
+    ensures { result ≡ record { id = s.id; wages = s.wages; second = 0 } }
 {
-    if id == 0 {
-        return used;
+    EmployeeOn {
+        id: s.id,
+        wages: s.wages,
+        second: 0,
     }
-    used + 1
 }
 
-// The state with one S more. PFML's says no second amount.
-fn with_one(st: State, s: Sighted) -> State
-    requires { Ready (walk_of st) (said_in s) }
-    ensures { walk_of result ≡ walk_after (said_in s) (walk_of st) }
+// The state with one S more, as `step` makes it of a line that is judged. It stands here too, since
+// it asks that the state is ready for the record, and a public function asks nothing of its caller.
+fn with_one(st: State, s: EmployeeOn) -> State
+    requires { Ready (walk_of st) (OfS s) }
+    ensures { walk_of result ≡ walk_after (OfS s) (walk_of st) }
 {
-    let held = st.held;
-    let filed = st.filed;
-    let open = st.open;
-    let all = st.all;
     State {
         stage: Stage::Reading(Phase::EOpen),
         lines: st.lines + 1,
-        held,
-        filed,
         open: Open {
-            fein: open.fein,
-            follow: open.follow,
-            count: open.count + 1,
-            sum: open.sum + s.wages,
-            second: open.second,
-            others: open.others,
-            nearest: open.nearest,
-            noted: open.noted,
-            account_head: open.account_head,
-            account_tail: open.account_tail,
+            count: st.open.count + 1,
+            sum: st.open.sum + s.wages,
+            second: st.open.second + s.second,
+            ..st.open
         },
         all: Totals {
-            count: all.count + 1,
-            employers: all.employers,
-            sum: all.sum + s.wages,
-            second: all.second,
-            others: all.others,
-            notes: all.notes,
+            count: st.all.count + 1,
+            sum: st.all.sum + s.wages,
+            second: st.all.second + s.second,
+            ..st.all
         },
-        used: one_used(st.used, s.id),
+        used: if s.id == 0 { st.used } else { st.used + 1 },
+        ..st
     }
 }
 
@@ -147,10 +112,9 @@ fn keep(ids: &mut [u32], st: State, s: Sighted)
     requires { s.id < 4294967296 }
     ensures { ids.new ≡ ids_after (change_by (said_in s) (walk_of st)) ids.old }
 {
-    if s.id == 0 {
-        return;
+    if s.id != 0 {
+        tables::put(ids, st.used, s.id as u32);
     }
-    tables::ids::put(ids, st.used, s.id as u32);
 }
 
 // At most so many lines more, while the line at the place is one that the walk takes. Without marks
@@ -163,27 +127,27 @@ fn lines(
     marks: &mut [u8],
     list: usize,
     most: usize,
-    low: &[u8],
-    high: &[u8],
+    template: &Template,
 ) -> Run
-    requires { Prepared list low.now high.now (reached_by begun ids.old) × Covers marks.old (take begun.state.used ids.old) }
+    requires { Prepared list template.now.low template.now.high (reached_by begun ids.old) × Covers marks.old (take begun.state.used ids.old) }
     ensures { reached_by result ids.new ≡ onward bytes.now list most (reached_by begun ids.old) }
 {
-    let mut state = begun.state;
-    let mut at = begun.at;
-    let mut left = most;
-    while 0 < left {
-        let s = plain::sight_at(bytes, at, low, high);
-        if !takes(state, s, ids, marks) {
-            return Run { state, at };
+    let mut run = begun;
+    for _ in 0..most {
+        let Some(s) = plain::sight_at(bytes, run.at, template) else {
+            return run;
+        };
+        if !takes(run.state, s, ids, marks) {
+            return run;
         }
-        keep(ids, state, s);
+        keep(ids, run.state, s);
         marks::mark(marks, s.id);
-        state = with_one(state, s);
-        at += s.taken;
-        left -= 1;
+        run = Run {
+            state: with_one(run.state, said_in(s)),
+            at: run.at + s.taken,
+        };
     }
-    Run { state, at }
+    run
 }
 
 // At most so many lines more; marks are made, and only identity numbers that are marked are looked
@@ -194,16 +158,14 @@ fn marked(
     ids: &mut [u32],
     list: usize,
     most: usize,
-    low: &[u8],
-    high: &[u8],
+    template: &Template,
 ) -> Run
-    requires { Prepared list low.now high.now (reached_by begun ids.old) }
+    requires { Prepared list template.now.low template.now.high (reached_by begun ids.old) }
     ensures { reached_by result ids.new ≡ onward bytes.now list most (reached_by begun ids.old) }
 {
-    let state = begun.state;
     let mut marks = [0u8; 32768];
-    marks::mark_first(&mut marks, ids, state.used);
-    lines(begun, bytes, ids, &mut marks, list, most, low, high)
+    marks::mark_first(&mut marks, ids, begun.state.used);
+    lines(begun, bytes, ids, &mut marks, list, most, template)
 }
 
 // How many lines, of at most so many, are taken before marks are made: to make them takes about as
@@ -235,19 +197,15 @@ fn few_then_many(
     ids: &mut [u32],
     list: usize,
     most: usize,
-    low: &[u8],
-    high: &[u8],
+    template: &Template,
 ) -> Run
-    requires { Prepared list low.now high.now (reached_by begun ids.old) }
+    requires { Prepared list template.now.low template.now.high (reached_by begun ids.old) }
     ensures { reached_by result ids.new ≡ onward bytes.now list most (reached_by begun ids.old) }
 {
-    let before = begun.state;
-    let few = few_lines(before.used, most);
-    let mut none = [0u8; 0];
-    let run = lines(begun, bytes, ids, &mut none, list, few, low, high);
-    let after = run.state;
-    if took_all(before.lines, after.lines, few) {
-        return marked(run, bytes, ids, list, most - few, low, high);
+    let few = few_lines(begun.state.used, most);
+    let run = lines(begun, bytes, ids, &mut [], list, few, template);
+    if took_all(begun.state.lines, run.state.lines, few) {
+        return marked(run, bytes, ids, list, most - few, template);
     }
     run
 }
@@ -261,10 +219,11 @@ fn run_from(opened: State, bytes: &[u8], from: usize, ids: &mut [u32], list: usi
         at: from,
     };
     if awaits(opened, ids.len(), list) {
-        let open = opened.open;
-        let low = plain::lowest(open.fein, opened.filed);
-        let high = plain::highest(open.fein, opened.filed);
-        return few_then_many(begun, bytes, ids, list, bytes.len(), &low, &high);
+        let template = Template {
+            low: plain::lowest(opened.open.fein, opened.filed),
+            high: plain::highest(opened.open.fein, opened.filed),
+        };
+        return few_then_many(begun, bytes, ids, list, bytes.len(), &template);
     }
     begun
 }
@@ -273,8 +232,7 @@ fn run_from(opened: State, bytes: &[u8], from: usize, ids: &mut [u32], list: usi
 pub fn behind(a: Answer, bytes: &[u8], at: usize, ids: &mut [u32], list: usize) -> Answer
     ensures { left_by result ids.new ≡ behind (drop at bytes.now) list (left_by a ids.old) }
 {
-    let reply = a.reply;
-    let taken = step::taken_in(reply);
+    let taken = step::taken_in(a.reply);
     if taken == 0 {
         return a;
     }
@@ -282,9 +240,8 @@ pub fn behind(a: Answer, bytes: &[u8], at: usize, ids: &mut [u32], list: usize) 
         return a;
     }
     let run = run_from(a.state, &bytes[at..], taken, ids, list);
-    let state = run.state;
     Answer {
-        reply: Reply::Fine(run.at),
-        state,
+        reply: Ok(run.at),
+        state: run.state,
     }
 }

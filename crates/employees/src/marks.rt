@@ -1,6 +1,8 @@
 // Marks of identity numbers, eight to a byte: a number whose mark is not set is none of those
 // marked, so that most searches are saved. None of the functions asks anything of the number of
 // marks.
+#![tactic(auto, unfolding(crate::specs::Marks::has_bit, crate::specs::Marks::with_bit))]
+
 ghost use Rattle.std.specs.Prelude.{◌<◌, ◌≡◌, take};
 ghost use Rattle.employees.specs.Marks.{mark_of, has_bit, with_bit, is_marked, with_mark, with_marks};
 
@@ -29,14 +31,13 @@ pub fn is_marked(marks: &[u8], id: u64) -> bool
     ensures { result ≡ is_marked marks.now id }
 {
     let slot = mark_of(id);
-    let place = slot / 8;
-    if place < marks.len() {
-        return has_bit(marks[place], (slot % 8) as u32);
+    match marks.get(slot / 8) {
+        Some(byte) => has_bit(*byte, (slot % 8) as u32),
+        None => true,
     }
-    true
 }
 
-// Past the marks' end nothing is written.
+// Past the marks' end nothing is written. By index: with `get_mut` the proof did not close.
 pub fn mark(marks: &mut [u8], id: u64)
     ensures { marks.new ≡ with_mark id marks.old }
 {
@@ -51,12 +52,8 @@ pub fn mark(marks: &mut [u8], id: u64)
 pub fn mark_first(marks: &mut [u8], ids: &[u32], n: usize)
     ensures { marks.new ≡ with_marks (take n ids.now) marks.old }
 {
-    let mut i = 0;
-    while i < n {
-        if ids.len() <= i {
-            return;
-        }
-        mark(marks, ids[i] as u64);
-        i += 1;
+    let first = &ids[..n.min(ids.len())];
+    for id in first {
+        mark(marks, u64::from(*id));
     }
 }

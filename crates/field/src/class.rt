@@ -1,16 +1,18 @@
 // The classes of fields, and the class test of a field.
+#![tactic(auto, unfolding(crate::specs::ClassTests::class_test, crate::specs::Classes::class_of, crate::specs::Classes::classes))]
+
 ghost use Rattle.std.specs.Prelude.{◌≡◌};
 ghost use Rattle.reason.specs.ReasonNumbers.{finding_of};
 ghost use Rattle.chars.specs.Characters.{capitals};
 ghost use Rattle.field.specs.Classes.{class_of};
-ghost use Rattle.field.specs.ClassTests.{lead_test, further_allowed, allowed_in, class_test};
+ghost use Rattle.field.specs.ClassTests.{lead_test, allowed_in, class_test};
 
 use chars::columns;
 use chars::columns::Allowed;
 use reason::Edit;
 
 // What a field is.
-#[derive(Clone, Copy)]
+#[derive(Clone, Copy, PartialEq, Eq)]
 pub enum Class {
     // Unused columns, where a format ignores them.
     Ignored,
@@ -55,7 +57,7 @@ pub enum Class {
 }
 
 // What a field is that PFML has not.
-#[derive(Clone, Copy)]
+#[derive(Clone, Copy, PartialEq, Eq)]
 pub enum Further {
     // A social security number, which never begins with 9.
     SocialSecurity,
@@ -67,52 +69,33 @@ pub enum Further {
     Difference,
 }
 
-// The number of each class, by which a list of fields names it.
-pub const IGNORED: u16 = 0;
+// A field of a record: its class, its first and its last column. The crates below know no field, and
+// tell columns by their bounds, as the definitions do.
+#[derive(Clone, Copy, PartialEq, Eq)]
+pub struct Field {
+    pub class: Class,
+    pub first: u16,
+    pub last: u16,
+}
 
-pub const RECORD_LETTER: u16 = 1;
-
-pub const BLANK_SPACE: u16 = 2;
-
-pub const NUMERIC: u16 = 3;
-
-pub const ACCOUNT_NUMBER: u16 = 4;
-
-pub const FLAG: u16 = 5;
-
-pub const THIRD_QUARTER_FLAG: u16 = 6;
-
-pub const PERIOD: u16 = 7;
-
-pub const REQUIRED_TEXT: u16 = 8;
-
-pub const OPTIONAL_TEXT: u16 = 9;
-
-pub const PERSON_NAME: u16 = 10;
-
-pub const ENTITY_CODE: u16 = 11;
-
-pub const STATE_CODE: u16 = 12;
-
-pub const ZIP_CODE: u16 = 13;
-
-pub const ZIP_EXTENSION: u16 = 14;
-
-pub const TAX_YEAR: u16 = 15;
-
-pub const EMPLOYER_FEIN: u16 = 16;
-
-pub const IDENTITY_NUMBER: u16 = 17;
-
-pub const CEASE_DATE: u16 = 18;
-
-pub const SOCIAL_SECURITY: u16 = 19;
-
-pub const MAINE_CODE: u16 = 20;
-
-pub const LICENCE: u16 = 21;
-
-pub const DIFFERENCE: u16 = 22;
+// A row of a list of fields.
+#[macro_export]
+macro_rules! row {
+    (More($further:ident), $first:literal, $last:literal) => {
+        $crate::class::Field {
+            class: $crate::class::Class::More($crate::class::Further::$further),
+            first: $first,
+            last: $last,
+        }
+    };
+    ($class:ident, $first:literal, $last:literal) => {
+        $crate::class::Field {
+            class: $crate::class::Class::$class,
+            first: $first,
+            last: $last,
+        }
+    };
+}
 
 // The class of a number.
 pub fn class_of(number: u16) -> Class
@@ -147,95 +130,49 @@ pub fn class_of(number: u16) -> Class
 }
 
 // What a field of text says before its columns are looked at.
-pub fn lead_edit(class: Class, line: &[u8], first: u16, last: u16) -> Edit
-    ensures { finding_of result ≡ lead_test class (capitals line.now) first last }
+pub fn lead_edit(line: &[u8], field: Field) -> Edit
+    ensures { finding_of result ≡ lead_test field.class (capitals line.now) field.first field.last }
 {
-    match class {
-        Class::Ignored => Edit::Passed,
-        Class::RecordLetter => Edit::Passed,
-        Class::BlankSpace => Edit::Passed,
-        Class::Numeric => Edit::Passed,
-        Class::AccountNumber => Edit::Passed,
-        Class::Flag => Edit::Passed,
-        Class::ThirdQuarterFlag => Edit::Passed,
-        Class::Period => Edit::Passed,
-        Class::RequiredText => text::required(line, first, last),
-        Class::OptionalText => text::optional(line, first, last),
-        Class::PersonName => text::required(line, first, last),
-        Class::EntityCode => Edit::Passed,
-        Class::StateCode => Edit::Passed,
-        Class::ZipCode => Edit::Passed,
-        Class::ZipExtension => Edit::Passed,
-        Class::TaxYear => Edit::Passed,
-        Class::EmployerFein => Edit::Passed,
-        Class::IdentityNumber => Edit::Passed,
-        Class::CeaseDate => Edit::Passed,
-        Class::More(_) => Edit::Passed,
+    match field.class {
+        Class::RequiredText | Class::PersonName => text::required(line, field.first, field.last),
+        Class::OptionalText => text::optional(line, field.first, field.last),
+        _ => Ok(()),
     }
 }
 
-// What each column of a field of this class may hold.
-pub fn allowed_in(class: Class, line: &[u8], first: u16, last: u16) -> Allowed
-    ensures { result ≡ allowed_in class (capitals line.now) first last }
+// What each column of a field may hold. The columns of any class not named here are left to the
+// field's own rule.
+pub fn allowed_in(line: &[u8], field: Field) -> Allowed
+    ensures { result ≡ allowed_in field.class (capitals line.now) field.first field.last }
 {
-    match class {
-        Class::Ignored => Allowed::Anything,
-        Class::RecordLetter => Allowed::Anything,
+    match field.class {
         Class::BlankSpace => Allowed::Blanks,
-        Class::Numeric => Allowed::Digits,
-        Class::AccountNumber => account_columns(line, first, last),
-        Class::Flag => Allowed::Anything,
-        Class::ThirdQuarterFlag => Allowed::Anything,
-        Class::Period => Allowed::Anything,
-        Class::RequiredText => Allowed::Anything,
-        Class::OptionalText => Allowed::Anything,
+        Class::AccountNumber => account_columns(line, field),
         Class::PersonName => Allowed::OfNames,
-        Class::EntityCode => Allowed::Anything,
-        Class::StateCode => Allowed::Anything,
-        Class::ZipCode => Allowed::Anything,
-        Class::ZipExtension => Allowed::Anything,
-        Class::TaxYear => Allowed::Digits,
-        Class::EmployerFein => Allowed::Digits,
-        Class::IdentityNumber => Allowed::Digits,
-        Class::CeaseDate => Allowed::Digits,
-        Class::More(further) => further_allowed(further),
-    }
-}
-
-// The same of a class that PFML has not.
-fn further_allowed(further: Further) -> Allowed
-    ensures { result ≡ further_allowed further }
-{
-    match further {
-        Further::SocialSecurity => Allowed::Digits,
-        Further::MaineCode => Allowed::Digits,
-        Further::Licence => Allowed::Anything,
-        Further::Difference => Allowed::Anything,
+        Class::Numeric
+        | Class::TaxYear
+        | Class::EmployerFein
+        | Class::IdentityNumber
+        | Class::CeaseDate
+        | Class::More(Further::SocialSecurity | Further::MaineCode) => Allowed::Digits,
+        _ => Allowed::Anything,
     }
 }
 
 // An account number that is all blank may be so; any other has digits.
-fn account_columns(line: &[u8], first: u16, last: u16) -> Allowed
-    ensures { result ≡ allowed_in Class.AccountNumber (capitals line.now) first last }
+fn account_columns(line: &[u8], field: Field) -> Allowed
+    ensures { result ≡ allowed_in Class.AccountNumber (capitals line.now) field.first field.last }
 {
-    if text::all_blank(line, first, last) {
+    if text::all_blank(line, field.first, field.last) {
         return Allowed::Anything;
     }
     Allowed::Digits
 }
 
 // The class test of a field.
-pub fn class_edit(class: Class, line: &[u8], first: u16, last: u16) -> Edit
-    ensures { finding_of result ≡ class_test class (capitals line.now) first last }
+pub fn class_edit(line: &[u8], field: Field) -> Edit
+    ensures { finding_of result ≡ class_test field.class (capitals line.now) field.first field.last }
 {
-    let lead = lead_edit(class, line, first, last);
-    match lead {
-        Edit::Broken(_, _) => lead,
-        Edit::Passed => columns::every_column(
-            allowed_in(class, line, first, last),
-            line,
-            first,
-            last,
-        ),
-    }
+    lead_edit(line, field)?;
+    columns::every_column(allowed_in(line, field), line, field.first, field.last)
 }

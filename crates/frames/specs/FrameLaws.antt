@@ -1,9 +1,8 @@
 -- Laws: how many bytes frames are, how a loop writes them, and what a call writes for a walk that stands for a file's meaning.
 use Rattle.std.specs.Prelude.{ℕ, ◌+◌, ◌*◌, ◌^◌, ◌≤◌, ◌<◌, true, false, ◌≡◌, length, get_or, take, set}
-use Rattle.std.proofs.lemmas.Bool.{false≢true}
 use mathlib.Core.List.{List, [], ◌∷◌, ◌++◌, append_assoc, append-nil}
 use Rattle.std.proofs.Math.Path.{refl, sym, ap}
-use Rattle.std.proofs.Common.{◌∙◌, add_comm, mul-zero, mul-suc, le_trans, mul-le-mul_left, add-one, arith, length-append, take-suc, length-take-le, lt-ltb, le-ltb}
+use Rattle.std.proofs.Common.{◌∙◌, add_comm, mul-zero, mul-suc, add-one, arith, length-append, take-suc, length-take-le, lt-ltb, le-ltb}
 use Rattle.reason.specs.ReasonNumbers.{Notice}
 use Rattle.edits.specs.declared.Totals.{Totals}
 use Rattle.edits.specs.declared.format.Format.{Format}
@@ -17,7 +16,7 @@ use Rattle.state.specs.Unfit.{unfit}
 use Rattle.state.specs.Walks as walks
 use Rattle.state.specs.Walks.{Standing, Walk}
 use Rattle.frames.specs.HexLaws.{hex_length, hex_low}
-use Rattle.frames.specs.Frames.{line_end, three_numbers, employer_frame, employer_size, employer_frames, closing_frame, refusal_frame, frames_of, bound, written, untouched, fitted, is_accepted, standing_frames, room_without, framing}
+use Rattle.frames.specs.Frames.{line_end, three_numbers, employer_frame, employer_size, employer_frames, closing_frame, refusal_frame, frames_of, bound, written, untouched, fitted, standing_frames, room_without, framing}
 use Rattle.frames.specs.Pasted.{pasted, pasted_none, pasted_one, pasted_front, pasted_length, pasted_behind, then_pasted}
 
 -- ---- lengths
@@ -102,13 +101,6 @@ module _ (at i j k : ℕ) (a b c d out o₁ o₂ o₃ o₄ : List ℕ) (is_i : l
       line_ended at (i + j + k + l) (a ++ b ++ c ++ d) out o₄ size h (four_written (omega arith) first second third fourth)
 
 -- ---- a loop over the employers
--- Where n frames of a size fit, so does one more than k below n, and so do k up to n.
-pub next_fits : (size k n room : ℕ) → k < n → size * n ≤ room → size * k + size ≤ room
-next_fits size k n room h fits = rw (← mul-suc size k) (le_trans (mul-le-mul_left size h) fits)
-
-pub fewer_fit : (size k n room : ℕ) → k ≤ n → size * n ≤ room → size * k ≤ room
-fewer_fit size k n room h fits = le_trans (mul-le-mul_left size h) fits
-
 module _ (format : Format) where
   frames_append : (a b : List Employer) → employer_frames format (a ++ b) ≡ employer_frames format a ++ employer_frames format b
   unfolding employer_frames
@@ -162,11 +154,6 @@ module _ (format : Format) (list : List Employer) (all : Totals) (within : all.e
       ∙ pasted_behind out (employer_size format * all.employers) front (closing_frame all) (first_frames format list all.employers within)
 
 -- ---- the whole call
-pub is_accepted_lem : (s : Standing) → is_accepted s ≡ true → s ≡ walks.accepted
-is_accepted_lem (walks.reading phase) e = absurd (false≢true e)
-is_accepted_lem walks.accepted e = refl
-is_accepted_lem (walks.refused says) e = absurd (false≢true e)
-
 module _ (walk : Walk) (list : List Employer) (out : List ℕ) (n : ℕ) (e : length list ≡ n) where
   pub framing_unfit : unfit (record { ids = walk.used; list = n }) walk ≡ true → framing walk list out ≡ untouched 72 out
   unfolding framing

@@ -1,5 +1,5 @@
 -- Definitions: the frames of an acknowledgement. "Output: lines of hexadecimal in capitals, one frame a line, LF, numbers big-endian."
-use Rattle.std.specs.Prelude.{ℕ, ◌+◌, ◌*◌, Bool, true, false, List, [], ◌∷◌, ◌++◌, ltb, length, take, drop, get_or, if◌then◌else◌}
+use Rattle.std.specs.Prelude.{ℕ, ◌+◌, ◌*◌, List, [], ◌∷◌, ◌++◌, ltb, length, take, drop, get_or, if◌then◌else◌, Result, Ok, Err}
 use Rattle.reason.specs.ReasonNumbers.{Notice}
 use Rattle.edits.specs.declared.Totals.{Totals}
 use Rattle.edits.specs.declared.format.Format.{Format}
@@ -11,8 +11,8 @@ use Rattle.state.specs.Unfit.{unfit}
 use Rattle.state.specs.Walks as walks
 use Rattle.state.specs.Walks.{Standing, Walk}
 use Rattle.frames.specs.Hex.{hex}
-use Rattle.frames.specs.declared.Framed.{Framed}
-use Rattle.frames.specs.declared.Framed.TheVariants.{Written, Unfit, NotEnded, TooSmall}
+use Rattle.frames.specs.declared.Unframed.{Unframed}
+use Rattle.frames.specs.declared.Unframed.TheVariants.{Unfit, NotEnded, TooSmall}
 
 -- Two digits a byte; a frame ends with LF.
 abbrev pub line_end : List ℕ
@@ -74,11 +74,11 @@ unwritten number = record { number = number; bytes = 0 }
 
 -- "72: state unfit; nothing changed". The papers give no number to frames that are asked for before the walk has ended, nor to a buffer that is too
 -- small for them: 87 and 88 are free in them.
-abbrev pub framed_numbers : Framed → FramedNumbers
-framed_numbers (Written bytes) = written bytes
-framed_numbers Unfit = unwritten 72
-framed_numbers NotEnded = unwritten 87
-framed_numbers TooSmall = unwritten 88
+abbrev pub framed_numbers : Result ℕ Unframed → FramedNumbers
+framed_numbers (Ok bytes) = written bytes
+framed_numbers (Err Unfit) = unwritten 72
+framed_numbers (Err NotEnded) = unwritten 87
+framed_numbers (Err TooSmall) = unwritten 88
 
 -- The answer in numbers, and what is then in the lent buffer.
 pub record Framing : Type 0 where
@@ -86,7 +86,7 @@ pub record Framing : Type 0 where
   pub out : List ℕ
 
 -- What the code answers, with what the buffer then holds.
-abbrev pub framed_by : Framed → List ℕ → Framing
+abbrev pub framed_by : Result ℕ Unframed → List ℕ → Framing
 framed_by framed out = record { says = framed_numbers framed; out = out }
 
 -- Nothing is written: the buffer is as it was.
@@ -100,13 +100,7 @@ fitted frames out =
     then untouched 88 out
     else record { says = written (length frames); out = frames ++ drop (length frames) out }
 
--- A walk that still reads was not accepted, the phase after F included.
-abbrev pub is_accepted : Standing → Bool
-is_accepted (walks.reading phase) = false
-is_accepted walks.accepted = true
-is_accepted (walks.refused says) = false
-
--- Frames come only for a walk that has ended: accepted, with frames of its format, or refused.
+-- Frames come only for a walk that has ended: accepted, with frames of its format, or refused. One that still reads has none, the phase after F included.
 abbrev pub standing_frames : Walk → List Employer → List ℕ → Standing → Framing
 standing_frames walk list out (walks.reading phase) = untouched 87 out
 standing_frames walk list out walks.accepted = fitted (employer_frames walk.held.format (take walk.all.employers list) ++ closing_frame walk.all) out

@@ -4,5 +4,4 @@ pub mod HexLaws
 pub mod Frames
 pub mod FrameLaws
 pub mod FirstByte
-pub mod FrameParts
 pub mod Once

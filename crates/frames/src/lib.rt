@@ -1,41 +1,39 @@
 // The frames of an acknowledgement, written into a lent buffer.
-#![tactic(auto)]
+#![tactic(auto, unfolding(crate::specs::Hex::hex_digit))]
 
 ghost use Rattle.std.specs.Prelude.{◌+◌, ◌*◌, ◌≤◌, ◌<◌, ◌++◌, ◌≡◌, length, take};
 ghost use Rattle.reason.specs.ReasonNumbers.{notice_of};
 ghost use Rattle.edits.specs.declared.format.Format.TheVariants.{Pfml};
 ghost use Rattle.tables.specs.Room.{most_employers};
-ghost use Rattle.state.specs.Walks.{walk_of, standing_of};
+ghost use Rattle.state.specs.Walks.{walk_of};
 ghost use Rattle.frames.specs.Hex.{hex_digit, hex};
 ghost use Rattle.frames.specs.Pasted.{pasted};
-ghost use Rattle.frames.specs.Frames.{line_end, three_numbers, employer_frame, employer_size, employer_frames, refusal_frame, framed_by, fitted, is_accepted, framing};
-ghost use Rattle.frames.specs.FrameParts.{accepted_size, accepted_employers, accepted_last, employers_framed, last_framing};
+ghost use Rattle.frames.specs.Frames.{line_end, three_numbers, employer_frame, employer_size, employer_frames, closing_frame, refusal_frame, framed_by, fitted, framing};
 
 use edits::Totals;
 use edits::format::Format;
 use reason::Refusal;
 use state::{Stage, State, fitness};
-use tables::{Employer, list};
+use tables::Employer;
 
-// The bytes written; or why none is: the state is unfit (72, which a list shorter than the
-// employers makes it too), the walk has not ended, the buffer is too small.
-#[derive(Clone, Copy)]
-pub enum Framed {
-    Written(usize),
-    Unfit,
-    NotEnded,
-    TooSmall,
+// Why nothing is written, each with its number: the state is unfit, which a list shorter than the
+// employers makes it too; the walk has not ended; the buffer is too small.
+#[derive(Clone, Copy, PartialEq, Eq)]
+pub enum Unframed {
+    Unfit = 72,
+    NotEnded = 87,
+    TooSmall = 88,
 }
+
+// How many bytes are written, or why none is.
+pub type Framed = Result<usize, Unframed>;
 
 // A digit in capitals.
 fn hex_digit(d: u8) -> u8
     requires { d < 16 }
     ensures { result ≡ hex_digit d }
 {
-    if d < 10 {
-        return 48 + d;
-    }
-    55 + d
+    if d < 10 { b'0' + d } else { b'A' - 10 + d }
 }
 
 // The last digits of a number, from a place of the buffer on.
@@ -43,12 +41,10 @@ fn put_hex(out: &mut [u8], at: usize, digits: usize, v: u64)
     requires { at + digits ≤ length out.old }
     ensures { out.new ≡ pasted at (hex digits v) out.old }
 {
-    let mut left = digits;
     let mut rest = v;
-    while 0 < left {
-        left -= 1;
+    for left in (0..digits).rev() {
         out[at + left] = hex_digit((rest % 16) as u8);
-        rest = rest / 16;
+        rest /= 16;
     }
 }
 
@@ -84,73 +80,54 @@ fn put_pfml_employer(out: &mut [u8], at: usize, e: Employer)
     out[at + 46] = b'\n';
 }
 
-// An employer's frame, at its place.
-fn put_employer(format: Format, out: &mut [u8], i: usize, e: Employer)
-    requires { employer_size format * i + employer_size format ≤ length out.old }
-    ensures { out.new ≡ pasted (employer_size format * i) (employer_frame format e) out.old }
+// How long an employer's frame is.
+fn employer_size(format: Format) -> usize
+    ensures { result ≡ employer_size format }
 {
     match format {
-        Format::Pfml => put_pfml_employer(out, 47 * i, e),
-        Format::Wham2024 => put_short_frame(out, 35 * i, 1, e.fein, e.count, e.cents),
-        Format::Unknown => put_short_frame(out, 35 * i, 1, e.fein, e.count, e.cents),
+        Format::Pfml => 47,
+        Format::Wham2024 | Format::Unknown => 35,
     }
 }
 
-// The frames of the first n employers, at the front of the buffer.
-fn put_employers(format: Format, out: &mut [u8], list: &[Employer], n: usize)
-    requires { (n ≤ length list.now) × (employer_size format * n ≤ length out.old) }
-    ensures { out.new ≡ pasted 0 (employer_frames format (take n list.now)) out.old }
-{
-    let mut i = 0;
-    while i < n {
-        let e = list::entry_at(list, i);
-        put_employer(format, out, i, e);
-        i += 1;
-    }
-}
-
-// The bytes of n employers' frames.
-fn employers_size(format: Format, n: usize) -> usize
-    requires { n ≤ most_employers }
-    ensures { result ≡ employer_size format * n }
+// An employer's frame.
+fn put_employer(format: Format, out: &mut [u8], at: usize, e: Employer)
+    requires { at + employer_size format ≤ length out.old }
+    ensures { out.new ≡ pasted at (employer_frame format e) out.old }
 {
     match format {
-        Format::Pfml => 47 * n,
-        Format::Wham2024 => 35 * n,
-        Format::Unknown => 35 * n,
+        Format::Pfml => put_pfml_employer(out, at, e),
+        Format::Wham2024 | Format::Unknown => {
+            put_short_frame(out, at, 1, e.fein, e.count, e.cents)
+        }
     }
 }
 
-// The bytes of an accepted file's frames: those of the employers and 35 more.
-fn accepted_size(format: Format, all: Totals) -> usize
-    requires { all.employers ≤ most_employers }
-    ensures { result ≡ accepted_size format all }
+// The frames of employers, at the front of the buffer.
+fn put_employers(format: Format, out: &mut [u8], list: &[Employer])
+    requires { employer_size format * length list.now ≤ length out.old }
+    ensures { out.new ≡ pasted 0 (employer_frames format list.now) out.old }
 {
-    employers_size(format, all.employers as usize) + 35
-}
-
-// An accepted file's employers, where a frame for each and the closing one fit.
-fn accepted_employers(format: Format, all: Totals, size: usize) -> usize
-    requires { all.employers ≤ most_employers }
-    ensures { result ≡ accepted_employers format all size }
-{
-    if size < accepted_size(format, all) {
-        return 0;
+    let size = employer_size(format);
+    for (i, e) in list.iter().enumerate() {
+        put_employer(format, out, size * i, *e);
     }
-    all.employers as usize
 }
 
-// The closing frame, after those of the employers.
-fn accepted(format: Format, all: Totals, out: &mut [u8]) -> Framed
-    requires { all.employers ≤ most_employers }
-    ensures { framed_by result out.new ≡ accepted_last format all out.old }
+// The frames of an accepted file: those of its employers, then the closing one.
+fn accepted(format: Format, all: Totals, list: &[Employer], out: &mut [u8]) -> Framed
+    requires { (all.employers ≤ most_employers) × (all.employers ≤ length list.now) }
+    ensures { framed_by result out.new ≡ fitted (employer_frames format (take all.employers list.now) ++ closing_frame all) out.old }
 {
-    let size = accepted_size(format, all);
+    let n = all.employers as usize;
+    let front = employer_size(format) * n;
+    let size = front + 35;
     if out.len() < size {
-        return Framed::TooSmall;
+        return Err(Unframed::TooSmall);
     }
-    put_short_frame(out, size - 35, 0, all.count, all.employers, all.sum);
-    Framed::Written(size)
+    put_employers(format, out, &list[..n]);
+    put_short_frame(out, front, 0, all.count, all.employers, all.sum);
+    Ok(size)
 }
 
 // A refusal has one frame.
@@ -158,76 +135,27 @@ fn refused(refusal: Refusal, out: &mut [u8]) -> Framed
     ensures { framed_by result out.new ≡ fitted (refusal_frame (notice_of refusal)) out.old }
 {
     if out.len() < 17 {
-        return Framed::TooSmall;
+        return Err(Unframed::TooSmall);
     }
-    let reason = refusal.reason;
     put_hex(out, 0, 2, 255);
-    put_hex(out, 2, 2, reason::number_of(reason) as u64);
-    put_hex(out, 4, 8, refusal.line as u64);
-    put_hex(out, 12, 4, refusal.column as u64);
+    put_hex(out, 2, 2, u64::from(u8::from(refusal.reason)));
+    put_hex(out, 4, 8, u64::from(refusal.line));
+    put_hex(out, 12, 4, u64::from(refusal.column));
     out[16] = b'\n';
-    Framed::Written(17)
-}
-
-// Whether a walk was accepted. One that still reads was not, the phase after F included.
-fn is_accepted(stage: Stage) -> bool
-    ensures { result ≡ is_accepted (standing_of stage) }
-{
-    match stage {
-        Stage::Reading(_) => false,
-        Stage::Accepted => true,
-        Stage::Refused(_) => false,
-    }
-}
-
-// The format that a walk was opened with.
-fn held_format(st: State) -> Format
-    ensures { result ≡ (walk_of st).held.format }
-{
-    let held = st.held;
-    held.format
-}
-
-// How many employers have a frame: those of a walk that was accepted, where all frames fit.
-fn employers_framed(st: State, room: usize, size: usize) -> usize
-    ensures { result ≡ employers_framed (walk_of st) room size }
-{
-    if fitness::is_unfit(st, st.used, room) {
-        return 0;
-    }
-    let stage = st.stage;
-    let all = st.all;
-    if is_accepted(stage) {
-        return accepted_employers(held_format(st), all, size);
-    }
-    0
-}
-
-// The last frame, after those of the employers, and the answer.
-fn last_frame(st: State, room: usize, out: &mut [u8]) -> Framed
-    ensures { framed_by result out.new ≡ last_framing (walk_of st) room out.old }
-{
-    if fitness::is_unfit(st, st.used, room) {
-        return Framed::Unfit;
-    }
-    let stage = st.stage;
-    let all = st.all;
-    if is_accepted(stage) {
-        return accepted(held_format(st), all, out);
-    }
-    let Stage::Refused(refusal) = stage else {
-        return Framed::NotEnded;
-    };
-    refused(refusal, out)
+    Ok(17)
 }
 
 // The acknowledgement of a walk that has ended, at the front of the buffer: at most 47 bytes for
-// each employer and 35 more. Only the frames of employers need the list, so all that is decided is
-// decided without it.
+// each employer and 35 more. A walk that still reads has none, the phase after F included.
 pub fn frames(st: State, list: &[Employer], out: &mut [u8]) -> Framed
     ensures { framed_by result out.new ≡ framing (walk_of st) list.now out.old }
 {
-    let n = employers_framed(st, list.len(), out.len());
-    put_employers(held_format(st), out, list, n);
-    last_frame(st, list.len(), out)
+    if fitness::is_unfit(st, st.used, list.len()) {
+        return Err(Unframed::Unfit);
+    }
+    match st.stage {
+        Stage::Reading(_) => Err(Unframed::NotEnded),
+        Stage::Accepted => accepted(st.held.format, st.all, list, out),
+        Stage::Refused(refusal) => refused(refusal, out),
+    }
 }

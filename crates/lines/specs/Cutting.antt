@@ -1,10 +1,7 @@
 -- Definitions: cutting a line that is to have n characters and an end.
 use Rattle.std.specs.Prelude.{ℕ, ◌+◌, min, eqb, length, if◌then◌else◌}
 use Rattle.laws.specs.Finding.{Finding, fine, broken, Reading, value, refused}
-use Rattle.reason.specs.ReasonNumbers.{number_of}
 use Rattle.lines.specs.Lines.{Line, size_of}
-use Rattle.lines.specs.declared.Cut.{Cut}
-use Rattle.lines.specs.declared.Cut.TheVariants.{Taken, Refused}
 
 -- The column after the last, 291 for 290. Columns are told in two bytes: a length of 65,535 leaves none after it, and 65,535 is told.
 abbrev pub beyond : ℕ → ℕ
@@ -24,8 +21,3 @@ length_test n line = if eqb (length line.text) n then fine else broken (min (len
 
 unfoldable pub end_test : ℕ → Line → Finding
 end_test n line = if eqb (length line.ending) 0 then broken (beyond n) 2 else fine
-
--- What the code answers, in the paper's numbers.
-abbrev pub cut_of : Cut → Reading
-cut_of (Taken bytes) = value bytes
-cut_of (Refused column reason) = refused column (number_of reason)

@@ -4,7 +4,6 @@ pub mod Laws
 pub mod CutOutcomes
 pub mod Lent
 pub mod Window
-pub mod Once
 pub mod Changed
 pub mod HiddenPlaces
 pub mod HiddenPlaceLaws

@@ -1,32 +1,16 @@
--- Follows the code; need not be believed. Looking for the end of the first line: what was found, as a number;
--- and the laws of what a line still has at a place, and of whether it is shorter than so many bytes.
-use Rattle.std.specs.Prelude.{ℕ, zero, suc, ◌+◌, ◌≤◌, ◌<◌, Bool, true, false, not, ◌||◌, List, [], ◌∷◌, ◌≡◌, refl, eqb, ltb, length, get_or, drop, if◌then◌else◌}
-use Rattle.std.proofs.Common.{add-one, arith, lt-ltb, le-ltb, ltb-true, ltb-false, drop_of_length-le}
+-- Follows the code; need not be believed. Looking for the end of the first line: the laws of what a line still has
+-- at a place, of whether it is shorter than so many bytes, and of the end at a place.
+use Rattle.std.specs.Prelude.{ℕ, zero, suc, ◌+◌, ◌-◌, ◌≤◌, ◌<◌, Bool, true, false, ◌||◌, List, [], ◌∷◌, ◌≡◌, refl, eqb, ltb, length, get_or, drop, if◌then◌else◌}
+use Rattle.std.specs.List.{slice_range}
+use Rattle.std.specs.Int.{from_bool}
 use Rattle.std.specs.Int.Bits.{bit_or}
+use Rattle.std.proofs.lemmas.List.{get_or-take, take_all}
+use Rattle.std.proofs.Common.{add-one, arith, length-drop, lt-ltb, le-ltb, ltb-true, ltb-false}
 use Rattle.std.proofs.Math.Seq.{drop-cons}
-use Rattle.lines.specs.Lines.{is_end, text_of}
+use Rattle.lines.specs.Lines.{is_end, text_of, end_of}
 
--- What was found, as a number.
-abbrev pub mark_of : Bool → ℕ
-mark_of true = 1
-mark_of false = 0
-
-pub mark_or : (a b : Bool) → bit_or (mark_of a) (mark_of b) ≡ mark_of (a || b)
-mark_or true true = refl
-mark_or true false = refl
-mark_or false true = refl
-mark_or false false = refl
-
-pub marked : (a : Bool) → not (eqb (mark_of a) 0) ≡ a
-marked true = refl
-marked false = refl
-
--- What a line still has at i: nothing past the bytes, nothing at an end, else a character and what it has at i + 1.
+-- What a line still has at i: nothing at an end, else a character and what it has at i + 1.
 module _ (s : List ℕ) (i : ℕ) where
-  pub past : length s ≤ i → length (text_of (drop i s)) ≡ 0
-  unfolding text_of
-  past h = rw (drop_of_length-le s {i = i} h)
-
   pub ends : i < length s → is_end (get_or s i 0) ≡ true → length (text_of (drop i s)) ≡ 0
   unfolding text_of
   ends h e = rw (drop-cons s i 0 h, e)
@@ -70,3 +54,43 @@ shorter_next s i h = by (ltb (length (text_of s)) i) (is_end (get_or s i 0)) ref
       let here = as_far_as s i (omega arith) in
       let more = goes_on s i h q in
       le-ltb (length (text_of s)) (i + 1) (omega arith)
+
+-- The same of what was found, told as a number, where the first n bytes are looked at.
+or_of_two : (a b : Bool) → bit_or (from_bool a) (from_bool b) ≡ from_bool (a || b)
+or_of_two true true = refl
+or_of_two true false = refl
+or_of_two false true = refl
+or_of_two false false = refl
+
+pub found_next : (s : List ℕ) (n i : ℕ) → i < n → n ≤ length s
+    → bit_or (from_bool (ltb (length (text_of s)) i)) (from_bool (is_end (get_or (slice_range s 0 n) i 0))) ≡ from_bool (ltb (length (text_of s)) (i + 1))
+found_next s n i below within =
+    let all : n - 0 ≡ n = omega arith in
+    rw (all, get_or-take n s i 0 below, shorter_next s i (omega arith)) (or_of_two (ltb (length (text_of s)) i) (is_end (get_or s i 0)))
+
+-- The end at a place goes by the byte that stands there, and after a CR by the next.
+end_by : (s : List ℕ) → length (end_of s) ≡ (if eqb (get_or s 0 0) 10 then 1 else if eqb (get_or s 0 0) 13 then (if eqb (get_or s 1 0) 10 then 2 else 1) else 0)
+unfolding end_of
+end_by [] = refl
+end_by (b ∷ []) = by (eqb b 10) (eqb b 13) where
+  by : (lf cr : Bool) → length {A = ℕ} (if lf then 10 ∷ [] else if cr then 13 ∷ [] else []) ≡ (if lf then 1 else if cr then 1 else 0)
+  by true cr = refl
+  by false true = refl
+  by false false = refl
+end_by (b ∷ next ∷ s) = by (eqb b 10) (eqb b 13) (eqb next 10) where
+  by : (lf cr more : Bool) → length {A = ℕ} (if lf then 10 ∷ [] else if cr then 13 ∷ (if more then 10 ∷ [] else []) else []) ≡ (if lf then 1 else if cr then (if more then 2 else 1) else 0)
+  by true cr more = refl
+  by false true true = refl
+  by false true false = refl
+  by false false more = refl
+
+pub end_told : (s : List ℕ) (at : ℕ)
+    → length (end_of (drop at s))
+    ≡ (if eqb (get_or (slice_range s at (length s)) 0 0) 10
+    then 1
+    else if eqb (get_or (slice_range s at (length s)) 0 0) 13
+    then (if eqb (get_or (slice_range s at (length s)) 1 0) 10 then 2 else 1)
+    else 0)
+end_told s at =
+    let all = take_all (length s - at) (drop at s) (rw length-drop (omega arith)) in
+    rw all (end_by (drop at s))

@@ -1,34 +1,17 @@
 // Cutting the first line off lent bytes, for records of any length.
-#![tactic(auto)]
+#![tactic(auto, unfolding(crate::specs::Lines::is_end))]
 
 ghost use Rattle.std.specs.Prelude.{◌≡◌, ◌≤◌, min, ltb, length, drop};
 ghost use Rattle.lines.specs.Lines.{is_end, text_of, end_of, first_line};
-ghost use Rattle.lines.specs.Looking.{mark_of};
-ghost use Rattle.lines.specs.Cutting.{beyond, cutting, cut_of};
+ghost use Rattle.reason.specs.ReasonNumbers.{reading_of};
+ghost use Rattle.lines.specs.Cutting.{cutting};
 
-use reason::Reason;
-
-// The bytes that a line and its end take, or the column and the reason of its refusal.
-#[derive(Clone, Copy)]
-pub enum Cut {
-    Taken(usize),
-    Refused(u16, Reason),
-}
+use reason::{Broken, Reason};
 
 fn is_end(b: u8) -> bool
     ensures { result ≡ is_end b }
 {
-    if b == 10 {
-        return true;
-    }
-    b == 13
-}
-
-// 1 at a byte that ends a line, else 0.
-fn end_mark(b: u8) -> u8
-    ensures { result ≡ mark_of (is_end b) }
-{
-    if is_end(b) { 1 } else { 0 }
+    matches!(b, b'\n' | b'\r')
 }
 
 // Whether the first line is shorter than n. Every one of n bytes is looked at, and what was found
@@ -37,14 +20,12 @@ fn end_mark(b: u8) -> u8
 fn is_shorter(s: &[u8], n: usize) -> bool
     ensures { result ≡ ltb (length (text_of s.now)) n }
 {
-    if s.len() < n {
+    let Some(front) = s.get(..n) else {
         return true;
-    }
+    };
     let mut found: u8 = 0;
-    let mut i = 0;
-    while i < n {
-        found = found | end_mark(s[i]);
-        i += 1;
+    for b in front {
+        found |= u8::from(is_end(*b));
     }
     found != 0
 }
@@ -54,82 +35,53 @@ fn is_shorter(s: &[u8], n: usize) -> bool
 fn look_from(s: &[u8], most: usize) -> usize
     ensures { (result ≤ most) × (result ≤ length (text_of s.now)) }
 {
-    if most == 0 {
-        return 0;
-    }
-    if is_shorter(s, most - 1) {
-        return 0;
-    }
-    most - 1
+    let last = most.saturating_sub(1);
+    if is_shorter(s, last) { 0 } else { last }
 }
 
 // The length of the first line, where that is at most `most`: it looks no further.
+#[tactic(auto, using(crate::specs::Looking::as_far_as, crate::specs::Looking::goes_on, crate::specs::Looking::ends, crate::specs::Looking::text_short))]
 pub fn line_length(s: &[u8], most: usize) -> usize
     ensures { result ≡ min (length (text_of s.now)) most }
 {
-    let mut i = look_from(s, most);
-    while i < most {
-        if s.len() <= i {
-            return i;
-        }
+    let end = most.min(s.len());
+    for i in look_from(s, most)..end {
         if is_end(s[i]) {
             return i;
         }
-        i += 1;
     }
-    i
+    end
 }
 
 // The length of the line end at a place, 0 where there is none.
+#[tactic(auto, using(crate::specs::Looking::end_told))]
 pub fn end_length(s: &[u8], at: usize) -> usize
     ensures { result ≡ length (end_of (drop at s.now)) }
 {
-    if s.len() <= at {
-        return 0;
+    match s.get(at..) {
+        Some([b'\r', b'\n', ..]) => 2,
+        Some([b'\n' | b'\r', ..]) => 1,
+        _ => 0,
     }
-    if s[at] == 10 {
-        return 1;
-    }
-    if s[at] != 13 {
-        return 0;
-    }
-    if s.len() - at < 2 {
-        return 1;
-    }
-    if s[at + 1] == 10 { 2 } else { 1 }
 }
 
-fn as_length(n: u16) -> usize
-    ensures { result ≡ n }
+// How many bytes the first line and its end take; the line is to have n characters and an end. What
+// stands after its end is ignored.
+#[tactic(auto, using(crate::specs::Laws::end_short), unfolding(crate::specs::Cutting::cutting))]
+pub fn cut_line(s: &[u8], n: u16) -> Result<usize, Broken>
+    ensures { reading_of result ≡ cutting n (first_line s.now) }
 {
-    n as usize
-}
-
-// The column after the last one of a record of n characters.
-fn column_beyond(n: u16) -> u16
-    ensures { result ≡ beyond n }
-{
-    if n < 65535 {
-        return n + 1;
+    let wanted = usize::from(n);
+    let length = line_length(s, wanted + 1);
+    let beyond = n.saturating_add(1);
+    if wanted < length {
+        return Err(Broken(beyond, Reason::LineLength));
     }
-    n
-}
-
-// The first line of the bytes, which is to have n characters and an end. What stands after its end
-// is ignored.
-pub fn cut_line(s: &[u8], n: u16) -> Cut
-    ensures { cut_of result ≡ cutting n (first_line s.now) }
-{
-    let length = line_length(s, as_length(n) + 1);
-    if as_length(n) < length {
-        return Cut::Refused(column_beyond(n), Reason::LineLength);
+    if length < wanted {
+        return Err(Broken((length + 1) as u16, Reason::LineLength));
     }
-    if length < as_length(n) {
-        return Cut::Refused((length + 1) as u16, Reason::LineLength);
+    match end_length(s, length) {
+        0 => Err(Broken(beyond, Reason::NoLineEnd)),
+        end => Ok(length + end),
     }
-    let end = end_length(s, length);
-    if end == 0 {
-        return Cut::Refused(column_beyond(n), Reason::NoLineEnd);
-    }
-    Cut::Taken(length + end)
 }

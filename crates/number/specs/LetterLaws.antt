@@ -32,10 +32,6 @@ unfolding letters_from
 letters_done line v at end h = let none : end - at ≡ 0 = omega arith in rw none
 
 module _ (line : List ℕ) (first last : ℕ) where
-  pub none_lettered : last ≤ first - 1 → letters_in line first last ≡ 0
-  unfolding letters_in letters_from
-  none_lettered h = let none : width_of first last ≡ 0 = omega arith in rw none
-
   pub too_many : 7 < width_of first last → letters_in line first last ≡ 0
   unfolding letters_in
   too_many h = rw (lt-ltb 7 (width_of first last) h)

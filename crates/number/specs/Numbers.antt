@@ -1,11 +1,8 @@
 -- Definitions: a number read from a field, and written into one: one rule for all widths.
 use Rattle.std.specs.Prelude.{ℕ, zero, suc, ◌+◌, ◌-◌, ◌*◌, ◌/◌, ◌%◌, List, ◌||◌, eqb, ltb, get_or, set, if◌then◌else◌}
 use Rattle.laws.specs.Finding.{Reading, value, refused}
-use Rattle.reason.specs.ReasonNumbers.{number_of}
 use Rattle.chars.specs.Characters.{is_digit}
 use Rattle.chars.specs.Columns.{width_of}
-use Rattle.number.specs.declared.Number.{Number}
-use Rattle.number.specs.declared.Number.TheVariants.{Value, Refused}
 
 -- n columns from a place on, when the columns before them read as v.
 unfoldable pub number_from : List ℕ → ℕ → ℕ → ℕ → Reading
@@ -39,8 +36,3 @@ put_digits line end (suc n) v = put_digits (set line (end - 1) (48 + v % 10)) (e
 -- "numbers right justified, zero filled": the last digits of v in the field's columns.
 unfoldable pub put_number : List ℕ → ℕ → ℕ → ℕ → List ℕ
 put_number line first last v = put_digits line last (width_of first last) v
-
--- What the code answers, in the paper's numbers.
-abbrev pub reading_of : Number → Reading
-reading_of (Value v) = value v
-reading_of (Refused column reason) = refused column (number_of reason)

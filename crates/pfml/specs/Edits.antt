@@ -4,7 +4,7 @@ use Rattle.laws.specs.Spelling.{bytes}
 use Rattle.pfml_fields.specs.Fields.{fields_of_a, fields_of_e, fields_of_s, fields_of_t, fields_of_f}
 use Rattle.pfml_fields.specs.FieldRules.{rules_of_a, rules_of_e, rules_of_s, rules_of_t, rules_of_f}
 use Rattle.edits.specs.Edit.{Edit}
-use Rattle.edits.specs.RuleNumbers.{Around}
+use Rattle.edits.specs.declared.Around.{Around}
 use Rattle.edits.specs.FieldEdits.{field_edits}
 use Rattle.edits.specs.declared.Context.{Context}
 use Rattle.edits.specs.declared.Seen.{Seen}
@@ -13,9 +13,11 @@ use Rattle.pfml.specs.Kinds.{kind_on, landmarks_of, is_known}
 use Rattle.pfml.specs.Place.{place_edits, count_edit}
 use Rattle.pfml.specs.declared.kind.Kind.{Kind}
 use Rattle.pfml.specs.declared.kind.Kind.TheVariants.{Transmitter, Employer, Employee, Total, Final, Unknown}
+use Rattle.field.specs.declared.class.Field.{Field}
+use Rattle.edits.specs.declared.Rule.{Rule}
 
 -- The fields of each record, and the rule beside each.
-abbrev pub rows_for : Kind → List (List ℕ)
+abbrev pub rows_for : Kind → List Field
 rows_for Transmitter = fields_of_a
 rows_for Employer = fields_of_e
 rows_for Employee = fields_of_s
@@ -23,7 +25,7 @@ rows_for Total = fields_of_t
 rows_for Final = fields_of_f
 rows_for Unknown = []
 
-abbrev pub rules_for : Kind → List ℕ
+abbrev pub rules_for : Kind → List Rule
 rules_for Transmitter = rules_of_a
 rules_for Employer = rules_of_e
 rules_for Employee = rules_of_s

@@ -8,20 +8,16 @@ use Rattle.chars.specs.declared.columns.Allowed.TheVariants.{Blanks, OfNames}
 use Rattle.number.specs.Numbers.{value_in}
 use Rattle.rules.specs.Rules.{period_in, may_be_filed}
 use Rattle.text.specs.Text.{all_blank, is_indented, entity_test}
-use Rattle.field.specs.ClassLaws.{class_again}
-use Rattle.field.specs.declared.class.Class.TheVariants.{RecordLetter, BlankSpace, Numeric, PersonName, EntityCode, TaxYear, IdentityNumber, Period}
 use Rattle.pfml_fields.specs.Fields.{fields_of_s}
 use Rattle.pfml_fields.specs.Rows.{rows_of_S}
 use Rattle.edits.specs.Edit.{Edit, at_first, rule, each_column, first_broken}
 use Rattle.edits.specs.EditLaws.{first_one, first_append}
-use Rattle.edits.specs.RuleNumbers.{Around}
-use Rattle.edits.specs.FieldLaws.{rule_again}
+use Rattle.edits.specs.declared.Around.{Around}
 use Rattle.edits.specs.FieldEdits.{field_edits}
 use Rattle.edits.specs.FieldEditLaws.{none_listed, fields_cons}
 use Rattle.edits.specs.Own.{digits_edit}
 use Rattle.edits.specs.declared.Context.{Context}
 use Rattle.edits.specs.declared.Phase.TheVariants.{EOpen}
-use Rattle.edits.specs.declared.Rule.TheVariants.{Nothing, YearOfA, PeriodOfA, FeinOfE, IdentityNew}
 use Rattle.pfml.specs.Edits.{placed_edits}
 use Rattle.pfml.specs.Place.{place_edits, count_edit}
 use Rattle.shape.specs.Limits.{most_employees}
@@ -50,11 +46,7 @@ edits_of_s a text =
 
 pub edits_of_S : (a : Around) (text : List ℕ) → field_edits a text fields_of_s rules_of_s ≡ edits_of_s a text
 unfolding rules_of_s
-edits_of_S a text =
-    rw rows_of_S
-    (simp (fields_cons, none_listed, class_again RecordLetter, class_again IdentityNumber, class_again PersonName, class_again BlankSpace)
-    (simp (class_again Period, class_again TaxYear, class_again Numeric, class_again EntityCode)
-    (simp (rule_again Nothing, rule_again IdentityNew, rule_again PeriodOfA, rule_again YearOfA, rule_again FeinOfE))))
+edits_of_S a text = rw rows_of_S (simp (fields_cons, none_listed))
 
 -- It stands under an E that says that S records follow, and is not one too many.
 pub place_of_S : (here : Context) → here.phase ≡ EOpen → here.open.follow ≡ true → ltb here.all.count most_employees ≡ true

@@ -9,6 +9,7 @@ use Rattle.edits.specs.Own.{own}
 use Rattle.pfml_fields.specs.Fields.{identity_of_s, last_name_of_s, first_name_of_s, wages_of_s}
 use Rattle.pfml.specs.Kinds.{landmarks_of}
 use Rattle.pfml.specs.declared.kind.Kind.TheVariants.{Employee}
+use Rattle.field.specs.declared.class.Field.{Field}
 
 -- "the identity number, names and wages": columns 2 to 42 and 64 to 77
 abbrev pub is_personal : ℕ → Bool
@@ -19,7 +20,7 @@ is_personal column =
 abbrev pub own_in : List ℕ → Class → ℕ → ℕ → List Edit
 own_in text class first last = own (landmarks_of Employee) (bytes "PFML") class text first last
 
-abbrev own_at : List ℕ → Class → List ℕ → List Edit
+abbrev own_at : List ℕ → Class → Field → List Edit
 own_at text class field = own_in text class (first_in field) (last_in field)
 
 abbrev pub personal_edits : List ℕ → List Edit

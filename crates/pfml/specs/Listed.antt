@@ -5,18 +5,14 @@ use Rattle.std.proofs.lemmas.List.{map-append}
 use Rattle.std.proofs.Common.{ap, ◌∙◌}
 use Rattle.lines.specs.Lines.{Line}
 use Rattle.chars.specs.Characters.{capitals}
-use Rattle.field.specs.ClassLaws.{class_again}
-use Rattle.field.specs.declared.class.Class.TheVariants.{RecordLetter, BlankSpace, Numeric, AccountNumber, Flag, ThirdQuarterFlag, Period, RequiredText, OptionalText, PersonName, EntityCode, StateCode, ZipCode, ZipExtension, TaxYear, EmployerFein, IdentityNumber, CeaseDate}
 use Rattle.pfml_fields.specs.Fields.{fields_of_a, fields_of_e, fields_of_s, fields_of_t, fields_of_f}
 use Rattle.edits.specs.Edit.{Edit}
 use Rattle.edits.specs.Numbering.{numbers_of, never_falls}
-use Rattle.edits.specs.RuleNumbers.{Around}
-use Rattle.edits.specs.FieldLaws.{rule_again}
+use Rattle.edits.specs.declared.Around.{Around}
 use Rattle.edits.specs.FieldEdits.{field_edits}
 use Rattle.edits.specs.FieldEditLaws.{none_listed, fields_cons}
 use Rattle.edits.specs.declared.Context.{Context}
 use Rattle.edits.specs.declared.Seen.{Seen}
-use Rattle.edits.specs.declared.Rule.TheVariants.{Nothing, YearInTime, QuarterInTime, YearOfA, PeriodOfA, FeinNew, FeinOfE, DateInQuarter, IdentityNew, CountOfS, WagesOfS, FileCountOfS, FileCountOfE, FileWagesOfS, FinalIfCurrent}
 use Rattle.pfml.specs.Kinds.{kind_on}
 use Rattle.pfml.specs.ListedNumbers.{numbers_of_a, numbers_of_e, numbers_of_s, numbers_of_t, numbers_of_f, numbers_for, numbers_of_head, numbers_of_text, numbers_of_line}
 use Rattle.pfml.specs.Edits.{rows_for, around, head_edits, text_edits, rules_for}
@@ -32,43 +28,43 @@ listed_head here text kind = refl
 module _ (a : Around) (text : List ℕ) where
   pub listed_A : numbers_of (field_edits a text fields_of_a rules_of_a) ≡ numbers_of_a
   unfolding fields_of_a rules_of_a
-  listed_A = simp (fields_cons, none_listed, class_again RecordLetter, class_again TaxYear, class_again EmployerFein, class_again EntityCode, class_again Period, class_again BlankSpace, class_again RequiredText, class_again StateCode, class_again ZipCode, class_again ZipExtension, class_again Numeric, class_again OptionalText, rule_again Nothing, rule_again YearInTime, rule_again QuarterInTime)
+  listed_A = simp (fields_cons, none_listed)
 
   pub in_order_A : never_falls (field_edits a text fields_of_a rules_of_a) ≡ true
   unfolding fields_of_a rules_of_a
-  in_order_A = simp (fields_cons, none_listed, class_again RecordLetter, class_again TaxYear, class_again EmployerFein, class_again EntityCode, class_again Period, class_again BlankSpace, class_again RequiredText, class_again StateCode, class_again ZipCode, class_again ZipExtension, class_again Numeric, class_again OptionalText, rule_again Nothing, rule_again YearInTime, rule_again QuarterInTime)
+  in_order_A = simp (fields_cons, none_listed)
 
   pub listed_E : numbers_of (field_edits a text fields_of_e rules_of_e) ≡ numbers_of_e
   unfolding fields_of_e rules_of_e
-  listed_E = simp (fields_cons, none_listed, class_again RecordLetter, class_again TaxYear, class_again EmployerFein, class_again BlankSpace, class_again RequiredText, class_again StateCode, class_again ZipExtension, class_again ZipCode, class_again EntityCode, class_again AccountNumber, class_again Flag, class_again Period, class_again ThirdQuarterFlag, class_again Numeric, class_again OptionalText, class_again CeaseDate, rule_again Nothing, rule_again YearOfA, rule_again FeinNew, rule_again PeriodOfA, rule_again FinalIfCurrent, rule_again DateInQuarter)
+  listed_E = simp (fields_cons, none_listed)
 
   pub in_order_E : never_falls (field_edits a text fields_of_e rules_of_e) ≡ true
   unfolding fields_of_e rules_of_e
-  in_order_E = simp (fields_cons, none_listed, class_again RecordLetter, class_again TaxYear, class_again EmployerFein, class_again BlankSpace, class_again RequiredText, class_again StateCode, class_again ZipExtension, class_again ZipCode, class_again EntityCode, class_again AccountNumber, class_again Flag, class_again Period, class_again ThirdQuarterFlag, class_again Numeric, class_again OptionalText, class_again CeaseDate, rule_again Nothing, rule_again YearOfA, rule_again FeinNew, rule_again PeriodOfA, rule_again FinalIfCurrent, rule_again DateInQuarter)
+  in_order_E = simp (fields_cons, none_listed)
 
   pub listed_S : numbers_of (field_edits a text fields_of_s rules_of_s) ≡ numbers_of_s
   unfolding fields_of_s rules_of_s
-  listed_S = simp (fields_cons, none_listed, class_again RecordLetter, class_again IdentityNumber, class_again PersonName, class_again BlankSpace, class_again Period, class_again TaxYear, class_again Numeric, class_again EntityCode, rule_again Nothing, rule_again IdentityNew, rule_again PeriodOfA, rule_again YearOfA, rule_again FeinOfE)
+  listed_S = simp (fields_cons, none_listed)
 
   pub in_order_S : never_falls (field_edits a text fields_of_s rules_of_s) ≡ true
   unfolding fields_of_s rules_of_s
-  in_order_S = simp (fields_cons, none_listed, class_again RecordLetter, class_again IdentityNumber, class_again PersonName, class_again BlankSpace, class_again Period, class_again TaxYear, class_again Numeric, class_again EntityCode, rule_again Nothing, rule_again IdentityNew, rule_again PeriodOfA, rule_again YearOfA, rule_again FeinOfE)
+  in_order_S = simp (fields_cons, none_listed)
 
   pub listed_T : numbers_of (field_edits a text fields_of_t rules_of_t) ≡ numbers_of_t
   unfolding fields_of_t rules_of_t
-  listed_T = simp (fields_cons, none_listed, class_again RecordLetter, class_again Numeric, class_again EntityCode, class_again BlankSpace, rule_again Nothing, rule_again CountOfS, rule_again FeinOfE, rule_again WagesOfS)
+  listed_T = simp (fields_cons, none_listed)
 
   pub in_order_T : never_falls (field_edits a text fields_of_t rules_of_t) ≡ true
   unfolding fields_of_t rules_of_t
-  in_order_T = simp (fields_cons, none_listed, class_again RecordLetter, class_again Numeric, class_again EntityCode, class_again BlankSpace, rule_again Nothing, rule_again CountOfS, rule_again FeinOfE, rule_again WagesOfS)
+  in_order_T = simp (fields_cons, none_listed)
 
   pub listed_F : numbers_of (field_edits a text fields_of_f rules_of_f) ≡ numbers_of_f
   unfolding fields_of_f rules_of_f
-  listed_F = simp (fields_cons, none_listed, class_again RecordLetter, class_again Numeric, class_again EntityCode, class_again BlankSpace, rule_again Nothing, rule_again FileCountOfS, rule_again FileCountOfE, rule_again FileWagesOfS)
+  listed_F = simp (fields_cons, none_listed)
 
   pub in_order_F : never_falls (field_edits a text fields_of_f rules_of_f) ≡ true
   unfolding fields_of_f rules_of_f
-  in_order_F = simp (fields_cons, none_listed, class_again RecordLetter, class_again Numeric, class_again EntityCode, class_again BlankSpace, rule_again Nothing, rule_again FileCountOfS, rule_again FileCountOfE, rule_again FileWagesOfS)
+  in_order_F = simp (fields_cons, none_listed)
 
 -- The same of a whole line, by the record on it.
 listed_fields : (a : Around) (text : List ℕ) (kind : Kind) → numbers_of (field_edits a text (rows_for kind) (rules_for kind)) ≡ numbers_for kind

@@ -16,7 +16,6 @@ use Rattle.pfml_fields.specs.Rows.{year_of_A, period_of_A, fein_of_E, identity_o
 use Rattle.pfml_fields.specs.FieldRules.{rules_of_a, rules_of_e, rules_of_s}
 use Rattle.edits.specs.EditLaws.{all_fine, all_append, not_broken}
 use Rattle.edits.specs.Edit.{AllFine}
-use Rattle.edits.specs.RuleNumbers.{rule_number}
 use Rattle.edits.specs.Formats.{quarter_held}
 use Rattle.edits.specs.FieldEditLaws.{at_row}
 use Rattle.edits.specs.FieldEdits.{field_edits}
@@ -37,6 +36,7 @@ use Rattle.pfml.specs.PlaceTables.{place_test, place_parts}
 use Rattle.pfml.specs.Says.{said_by}
 use Rattle.pfml.specs.declared.kind.Kind.{Kind}
 use Rattle.pfml.specs.declared.kind.Kind.TheVariants.{Transmitter, Employer, Employee, Total, Final, Unknown}
+use Rattle.edits.specs.declared.Rule.TheVariants.{Nothing}
 
 -- The sizes of what a record says.
 pub bounded_by : (kind : Kind) (text : List ℕ) → Bounded pfml_shape (said_by kind text)
@@ -90,19 +90,19 @@ place_of_F AfterT follow e = refl
 place_of_F AfterF follow e = absurd (not_broken _ _ (sym e))
 
 -- ---- the fields
-year_rule : get_or rules_of_a 1 0 ≡ rule_number YearInTime
+year_rule : get_or rules_of_a 1 Nothing ≡ YearInTime
 unfolding rules_of_a
 year_rule = refl
 
-period_rule : get_or rules_of_a 4 0 ≡ rule_number QuarterInTime
+period_rule : get_or rules_of_a 4 Nothing ≡ QuarterInTime
 unfolding rules_of_a
 period_rule = refl
 
-fein_rule : get_or rules_of_e 2 0 ≡ rule_number FeinNew
+fein_rule : get_or rules_of_e 2 Nothing ≡ FeinNew
 unfolding rules_of_e
 fein_rule = refl
 
-identity_rule : get_or rules_of_s 1 0 ≡ rule_number IdentityNew
+identity_rule : get_or rules_of_s 1 Nothing ≡ IdentityNew
 unfolding rules_of_s
 identity_rule = refl
 

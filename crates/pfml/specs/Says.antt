@@ -1,5 +1,5 @@
 -- Definitions: what a record that breaks no edit says to the walk.
-use Rattle.std.specs.Prelude.{ℕ, Bool, true, false, List, eqb}
+use Rattle.std.specs.Prelude.{ℕ, Bool, true, List, None, eqb}
 use Rattle.edits.specs.FieldRow.{value_at}
 use Rattle.pfml_fields.specs.Fields.{year_of_a, period_of_a, fein_of_e, amended_of_e, no_wages_of_e, final_of_e, cease_date_of_e, identity_of_s, wages_of_s}
 use Rattle.shape.specs.declared.Said.{Said}
@@ -7,9 +7,10 @@ use Rattle.shape.specs.declared.Said.TheVariants.{OfA, OfE, OfS, OfT, OfF, OfNon
 use Rattle.pfml.specs.Kinds.{kind_on}
 use Rattle.pfml.specs.declared.kind.Kind.{Kind}
 use Rattle.pfml.specs.declared.kind.Kind.TheVariants.{Transmitter, Employer, Employee, Total, Final, Unknown}
+use Rattle.field.specs.declared.class.Field.{Field}
 
 -- Whether a flag is 1.
-abbrev pub is_set : List ℕ → List ℕ → Bool
+abbrev pub is_set : List ℕ → Field → Bool
 is_set text field = eqb (value_at text field) 1
 
 -- A its year and period; E its FEIN, whether 190 is 1, and as numbers the flags 187 and 282 and the cease date; S its identity number and its wages.
@@ -26,9 +27,7 @@ said_by Employer text =
       cease_date = value_at text cease_date_of_e;
       account_head = 0;
       account_tail = 0;
-      files = false;
-      year = 0;
-      month = 0;
+      files = None;
     })
 said_by Employee text = OfS (record { id = value_at text identity_of_s; wages = value_at text wages_of_s; second = 0 })
 said_by Total text = OfT

@@ -10,21 +10,17 @@ use Rattle.chars.specs.Columns.{every_column}
 use Rattle.chars.specs.declared.columns.Allowed.TheVariants.{Permitted, Blanks}
 use Rattle.number.specs.Numbers.{value_in}
 use Rattle.text.specs.Text.{entity_test}
-use Rattle.field.specs.ClassLaws.{class_again}
-use Rattle.field.specs.declared.class.Class.TheVariants.{RecordLetter, BlankSpace, Numeric, EntityCode}
 use Rattle.pfml_fields.specs.Fields.{fields_of_t, fields_of_f}
 use Rattle.pfml_fields.specs.Rows.{rows_of_T, rows_of_F}
 use Rattle.edits.specs.Edit.{Edit, at_first, rule, each_column, first_broken, AllFine}
 use Rattle.edits.specs.EditLaws.{all_fine, all_append, first_cons, first_one, first_append}
-use Rattle.edits.specs.RuleNumbers.{Around}
-use Rattle.edits.specs.FieldLaws.{rule_again}
+use Rattle.edits.specs.declared.Around.{Around}
 use Rattle.edits.specs.FieldEdits.{field_edits}
 use Rattle.edits.specs.FieldEditLaws.{none_listed, fields_cons}
 use Rattle.edits.specs.Own.{digits_edit}
 use Rattle.edits.specs.declared.Context.{Context}
 use Rattle.edits.specs.declared.Phase.{Phase}
 use Rattle.edits.specs.declared.Phase.TheVariants.{EOpen, AfterT}
-use Rattle.edits.specs.declared.Rule.TheVariants.{Nothing, FeinOfE, CountOfS, WagesOfS, FileCountOfS, FileCountOfE, FileWagesOfS}
 use Rattle.edits.specs.declared.Seen.{Seen}
 use Rattle.pfml.specs.Kinds.{kind_on, is_known}
 use Rattle.pfml.specs.Edits.{rows_for, around, placed_edits, head_edits, text_edits, rules_for}
@@ -68,17 +64,11 @@ edits_of_f a text =
 module _ (a : Around) (text : List ℕ) where
   pub edits_of_T : field_edits a text fields_of_t rules_of_t ≡ edits_of_t a text
   unfolding rules_of_t
-  edits_of_T =
-      rw rows_of_T
-      (simp (fields_cons, none_listed, class_again RecordLetter, class_again Numeric, class_again EntityCode, class_again BlankSpace)
-      (simp (rule_again Nothing, rule_again CountOfS, rule_again FeinOfE, rule_again WagesOfS)))
+  edits_of_T = rw rows_of_T (simp (fields_cons, none_listed))
 
   pub edits_of_F : field_edits a text fields_of_f rules_of_f ≡ edits_of_f a text
   unfolding rules_of_f
-  edits_of_F =
-      rw rows_of_F
-      (simp (fields_cons, none_listed, class_again RecordLetter, class_again Numeric, class_again EntityCode, class_again BlankSpace)
-      (simp (rule_again Nothing, rule_again FileCountOfS, rule_again FileCountOfE, rule_again FileWagesOfS)))
+  edits_of_F = rw rows_of_F (simp (fields_cons, none_listed))
 
 -- ---- the place: T under an E, F right after a T
 module _ (here : Context) where

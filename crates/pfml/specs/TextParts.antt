@@ -1,15 +1,23 @@
 -- Laws: each record's part of the lists, as the code comes to it.
-use Rattle.std.specs.Prelude.{ℕ, List, ◌≡◌}
+use Rattle.std.specs.Prelude.{ℕ, ◌-◌, List, ◌≡◌, take, drop}
 use Rattle.edits.specs.Edit.{first_broken}
-use Rattle.edits.specs.RuleNumbers.{Around}
+use Rattle.edits.specs.declared.Around.{Around}
 use Rattle.edits.specs.Tests.{fields_test}
 use Rattle.edits.specs.FieldEdits.{field_edits}
 use Rattle.edits.specs.FieldEditLaws.{fields_parts}
+use Rattle.pfml_fields.specs.Fields.{fields}
+use Rattle.pfml_fields.specs.FieldRules.{rules}
 use Rattle.pfml.specs.Edits.{rows_for, rules_for}
 use Rattle.pfml.specs.Wide.{rows_wide}
 use Rattle.pfml.specs.declared.kind.Kind.{Kind}
+use Rattle.field.specs.declared.class.Field.{Field}
+use Rattle.edits.specs.declared.Rule.{Rule}
+
+-- The rows and rules of a record stand in the lists from one number up to another, left out.
+abbrev pub IsPart : Kind → ℕ → ℕ → Type 0
+IsPart kind from to = (take (to - from) (drop from fields) ≡ rows_for kind) × (take (to - from) (drop from rules) ≡ rules_for kind)
 
 -- The rows and rules of a record's part of the lists find what the record's list of edits finds.
-pub part_finds : (a : Around) (line : List ℕ) (kind : Kind) (rows : List (List ℕ)) (rules : List ℕ) → rows ≡ rows_for kind → rules ≡ rules_for kind
+pub part_finds : (a : Around) (line : List ℕ) (kind : Kind) (rows : List Field) (rules : List Rule) → rows ≡ rows_for kind → rules ≡ rules_for kind
     → fields_test a line rows rules ≡ first_broken (field_edits a line (rows_for kind) (rules_for kind))
 part_finds a line kind rows rules p q = rw (p, q) (fields_parts a line (rows_for kind) (rules_for kind) (rows_wide kind))

@@ -1,4 +1,6 @@
 // The five records, by their letters.
+#![tactic(auto, unfolding(crate::specs::Kinds::kind_of))]
+
 ghost use Rattle.std.specs.Prelude.{◌≡◌};
 ghost use Rattle.pfml.specs.Kinds.{kind_of, is_known, place_in_order, no_landmarks, landmarks_of};
 
@@ -7,7 +9,7 @@ use pfml_fields::{
     FINAL_OF_E, PERIOD_OF_A, PERIOD_OF_E, STATE_OF_A, STATE_OF_E, YEAR_OF_A, YEAR_OF_E,
 };
 
-#[derive(Clone, Copy)]
+#[derive(Clone, Copy, PartialEq, Eq)]
 pub enum Kind {
     // A
     Transmitter,
@@ -19,7 +21,7 @@ pub enum Kind {
     Total,
     // F
     Final,
-    // Another letter.
+    // Another letter. It is a variant and no `None`, since the place table has a row for it.
     Unknown,
 }
 
@@ -41,28 +43,14 @@ pub fn kind_of(letter: u8) -> Kind
 pub fn is_known(kind: Kind) -> bool
     ensures { result ≡ is_known kind }
 {
-    match kind {
-        Kind::Transmitter => true,
-        Kind::Employer => true,
-        Kind::Employee => true,
-        Kind::Total => true,
-        Kind::Final => true,
-        Kind::Unknown => false,
-    }
+    kind != Kind::Unknown
 }
 
 // The record's place in the order A, E, S, T, F, from 0.
 pub fn order_of(kind: Kind) -> usize
     ensures { result ≡ place_in_order kind }
 {
-    match kind {
-        Kind::Transmitter => 0,
-        Kind::Employer => 1,
-        Kind::Employee => 2,
-        Kind::Total => 3,
-        Kind::Final => 4,
-        Kind::Unknown => 5,
-    }
+    kind as usize
 }
 
 fn no_landmarks() -> Landmarks
@@ -85,26 +73,22 @@ pub fn landmarks_of(kind: Kind) -> Landmarks
 {
     match kind {
         Kind::Transmitter => Landmarks {
-            year_first: YEAR_OF_A[1],
-            year_last: YEAR_OF_A[2],
-            period_first: PERIOD_OF_A[1],
-            period_last: PERIOD_OF_A[2],
-            state: STATE_OF_A[1],
-            final_flag: 0,
-            further: NONE_FURTHER,
+            year_first: YEAR_OF_A.first,
+            year_last: YEAR_OF_A.last,
+            period_first: PERIOD_OF_A.first,
+            period_last: PERIOD_OF_A.last,
+            state: STATE_OF_A.first,
+            ..no_landmarks()
         },
         Kind::Employer => Landmarks {
-            year_first: YEAR_OF_E[1],
-            year_last: YEAR_OF_E[2],
-            period_first: PERIOD_OF_E[1],
-            period_last: PERIOD_OF_E[2],
-            state: STATE_OF_E[1],
-            final_flag: FINAL_OF_E[1],
-            further: NONE_FURTHER,
+            year_first: YEAR_OF_E.first,
+            year_last: YEAR_OF_E.last,
+            period_first: PERIOD_OF_E.first,
+            period_last: PERIOD_OF_E.last,
+            state: STATE_OF_E.first,
+            final_flag: FINAL_OF_E.first,
+            ..no_landmarks()
         },
-        Kind::Employee => no_landmarks(),
-        Kind::Total => no_landmarks(),
-        Kind::Final => no_landmarks(),
-        Kind::Unknown => no_landmarks(),
+        _ => no_landmarks(),
     }
 }

@@ -7,19 +7,15 @@ ghost use Rattle.pfml.specs.PlaceTables.{before_a, after_a, under_e, after_t, af
 
 use crate::kind::Kind;
 use edits::Phase;
-use reason::{Edit, Reason};
+use reason::{Broken, Edit, Reason};
 use shape::head;
 
 fn before_a(kind: Kind) -> Edit
     ensures { finding_of result ≡ before_a kind }
 {
     match kind {
-        Kind::Transmitter => Edit::Passed,
-        Kind::Employer => Edit::Broken(1, Reason::BeforeA),
-        Kind::Employee => Edit::Broken(1, Reason::BeforeA),
-        Kind::Total => Edit::Broken(1, Reason::BeforeA),
-        Kind::Final => Edit::Broken(1, Reason::BeforeA),
-        Kind::Unknown => Edit::Broken(1, Reason::BeforeA),
+        Kind::Transmitter => Ok(()),
+        _ => Err(Broken(1, Reason::BeforeA)),
     }
 }
 
@@ -27,12 +23,11 @@ fn after_a(kind: Kind) -> Edit
     ensures { finding_of result ≡ after_a kind }
 {
     match kind {
-        Kind::Transmitter => Edit::Broken(1, Reason::SecondA),
-        Kind::Employer => Edit::Passed,
-        Kind::Employee => Edit::Broken(1, Reason::SWithoutE),
-        Kind::Total => Edit::Broken(1, Reason::TWithoutE),
-        Kind::Final => Edit::Broken(1, Reason::FWithoutE),
-        Kind::Unknown => Edit::Passed,
+        Kind::Transmitter => Err(Broken(1, Reason::SecondA)),
+        Kind::Employee => Err(Broken(1, Reason::SWithoutE)),
+        Kind::Total => Err(Broken(1, Reason::TWithoutE)),
+        Kind::Final => Err(Broken(1, Reason::FWithoutE)),
+        Kind::Employer | Kind::Unknown => Ok(()),
     }
 }
 
@@ -40,12 +35,11 @@ fn under_e(follow: bool, kind: Kind) -> Edit
     ensures { finding_of result ≡ under_e follow kind }
 {
     match kind {
-        Kind::Transmitter => Edit::Broken(1, Reason::SecondA),
-        Kind::Employer => Edit::Broken(1, Reason::EWhileEOpen),
+        Kind::Transmitter => Err(Broken(1, Reason::SecondA)),
+        Kind::Employer => Err(Broken(1, Reason::EWhileEOpen)),
         Kind::Employee => under_saying(follow),
-        Kind::Total => Edit::Passed,
-        Kind::Final => Edit::Broken(1, Reason::FWhileEOpen),
-        Kind::Unknown => Edit::Passed,
+        Kind::Final => Err(Broken(1, Reason::FWhileEOpen)),
+        Kind::Total | Kind::Unknown => Ok(()),
     }
 }
 
@@ -53,12 +47,10 @@ fn after_t(kind: Kind) -> Edit
     ensures { finding_of result ≡ after_t kind }
 {
     match kind {
-        Kind::Transmitter => Edit::Broken(1, Reason::SecondA),
-        Kind::Employer => Edit::Passed,
-        Kind::Employee => Edit::Broken(1, Reason::SWithoutE),
-        Kind::Total => Edit::Broken(1, Reason::SecondT),
-        Kind::Final => Edit::Passed,
-        Kind::Unknown => Edit::Passed,
+        Kind::Transmitter => Err(Broken(1, Reason::SecondA)),
+        Kind::Employee => Err(Broken(1, Reason::SWithoutE)),
+        Kind::Total => Err(Broken(1, Reason::SecondT)),
+        Kind::Employer | Kind::Final | Kind::Unknown => Ok(()),
     }
 }
 
@@ -66,12 +58,10 @@ fn after_f(kind: Kind) -> Edit
     ensures { finding_of result ≡ after_f kind }
 {
     match kind {
-        Kind::Transmitter => Edit::Broken(1, Reason::SecondA),
-        Kind::Employer => Edit::Broken(1, Reason::BehindF),
-        Kind::Employee => Edit::Broken(1, Reason::BehindF),
-        Kind::Total => Edit::Broken(1, Reason::BehindF),
-        Kind::Final => Edit::Broken(1, Reason::SecondF),
-        Kind::Unknown => Edit::Passed,
+        Kind::Transmitter => Err(Broken(1, Reason::SecondA)),
+        Kind::Employer | Kind::Employee | Kind::Total => Err(Broken(1, Reason::BehindF)),
+        Kind::Final => Err(Broken(1, Reason::SecondF)),
+        Kind::Unknown => Ok(()),
     }
 }
 
@@ -80,12 +70,13 @@ fn under_saying(follow: bool) -> Edit
     ensures { finding_of result ≡ under_e follow Kind.Employee }
 {
     if follow {
-        return Edit::Passed;
+        return Ok(());
     }
-    Edit::Broken(1, Reason::SUnderZeroE)
+    Err(Broken(1, Reason::SUnderZeroE))
 }
 
 // The place rules; `follow`: the open E says that S records follow.
+#[tactic(auto, using(crate::specs::PlaceTables::place_parts))]
 pub fn place_edit(phase: Phase, follow: bool, kind: Kind) -> Edit
     ensures { finding_of result ≡ first_broken (place_edits phase follow kind) }
 {
@@ -103,11 +94,7 @@ pub fn count_edit(kind: Kind, count: u64) -> Edit
     ensures { finding_of result ≡ (count_edit kind count).finds }
 {
     match kind {
-        Kind::Transmitter => Edit::Passed,
-        Kind::Employer => Edit::Passed,
         Kind::Employee => head::one_more(count),
-        Kind::Total => Edit::Passed,
-        Kind::Final => Edit::Passed,
-        Kind::Unknown => Edit::Passed,
+        _ => Ok(()),
     }
 }

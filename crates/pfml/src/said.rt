@@ -1,20 +1,20 @@
 // What a record says to the walk, and what it asks of the lent tables.
 ghost use Rattle.std.specs.Prelude.{◌≡◌};
 ghost use Rattle.chars.specs.Characters.{capitals};
-ghost use Rattle.edits.specs.FieldRow.{value_at};
-ghost use Rattle.shape.specs.Shape.{asks_for, fein_asked, id_asked};
+ghost use Rattle.shape.specs.Shape.{fein_asked, id_asked};
 ghost use Rattle.pfml.specs.Says.{is_set, said_by};
 
 use crate::kind::Kind;
 use calendar::Quarter;
 use edits::rows;
+use field::class::Field;
 use pfml_fields::{
     AMENDED_OF_E, CEASE_DATE_OF_E, FEIN_OF_E, FINAL_OF_E, IDENTITY_OF_S, NO_WAGES_OF_E,
     PERIOD_OF_A, WAGES_OF_S, YEAR_OF_A,
 };
-use shape::{Asking, EmployeeOn, EmployerOn, Said};
+use shape::{EmployeeOn, EmployerOn, Said};
 
-fn is_set(line: &[u8], field: [u16; 3]) -> bool
+fn is_set(line: &[u8], field: Field) -> bool
     ensures { result ≡ is_set (capitals line.now) field }
 {
     rows::value_at(line, field) == 1
@@ -32,9 +32,7 @@ fn employer_on(line: &[u8]) -> Said
         cease_date: rows::value_at(line, CEASE_DATE_OF_E),
         account_head: 0,
         account_tail: 0,
-        files: false,
-        year: 0,
-        month: 0,
+        files: None,
     })
 }
 
@@ -71,42 +69,24 @@ pub fn said_by(kind: Kind, line: &[u8]) -> Said
     }
 }
 
-// What a field reads as, asked for.
-fn asks_for(line: &[u8], field: [u16; 3]) -> Asking
-    ensures { result ≡ asks_for (value_at (capitals line.now) field) }
-{
-    Asking {
-        asks: true,
-        number: rows::value_at(line, field),
-    }
-}
-
 // What a record asks of the employer list: an E whether its FEIN stands on an earlier E, another
 // record nothing.
-pub fn fein_asked(kind: Kind, line: &[u8]) -> Asking
+pub fn fein_asked(kind: Kind, line: &[u8]) -> Option<u64>
     ensures { result ≡ fein_asked (said_by kind (capitals line.now)) }
 {
     match kind {
-        Kind::Transmitter => shape::asks_nothing(),
-        Kind::Employer => asks_for(line, FEIN_OF_E),
-        Kind::Employee => shape::asks_nothing(),
-        Kind::Total => shape::asks_nothing(),
-        Kind::Final => shape::asks_nothing(),
-        Kind::Unknown => shape::asks_nothing(),
+        Kind::Employer => Some(rows::value_at(line, FEIN_OF_E)),
+        _ => None,
     }
 }
 
 // What a record asks of the id table: an S whether its identity number stands under the open E,
 // another record nothing.
-pub fn id_asked(kind: Kind, line: &[u8]) -> Asking
+pub fn id_asked(kind: Kind, line: &[u8]) -> Option<u64>
     ensures { result ≡ id_asked (said_by kind (capitals line.now)) }
 {
     match kind {
-        Kind::Transmitter => shape::asks_nothing(),
-        Kind::Employer => shape::asks_nothing(),
-        Kind::Employee => asks_for(line, IDENTITY_OF_S),
-        Kind::Total => shape::asks_nothing(),
-        Kind::Final => shape::asks_nothing(),
-        Kind::Unknown => shape::asks_nothing(),
+        Kind::Employee => Some(rows::value_at(line, IDENTITY_OF_S)),
+        _ => None,
     }
 }

@@ -10,7 +10,7 @@ use native.Mathlib.Omega.{arith}
 use Rattle.std.proofs.lemmas.Bool.{lt-leb}
 use Rattle.laws.specs.ChoiceLaws.{both_hold, within}
 use Rattle.laws.specs.Table.{every, at}
-use Rattle.edits.specs.FieldRow.{first_in, last_in}
+use Rattle.edits.specs.FieldRow.{no_row, first_in, last_in}
 use Rattle.pfml_fields.specs.Fields.{fields_of_a, fields_of_e, fields_of_s, fields_of_t, fields_of_f, rows_of, fields, starts, first_field}
 use Rattle.pfml_fields.specs.Rows.{in_record, row_of_record}
 use Rattle.edits.specs.RowTests.{tiles}
@@ -18,6 +18,7 @@ use Rattle.edits.specs.RowTestLaws.{tiles_first, row_within}
 use Rattle.pfml_fields.specs.MapLaws.{map_length}
 use Rattle.pfml_fields.proofs.Tiling.{rows_tile}
 use Rattle.pfml_fields.specs.Map.{spread, column_map, holds, is_of, covers, holding, fields_at}
+use Rattle.field.specs.declared.class.Field.{Field}
 
 -- ---- the map
 all_agree : T (every covers 0 0 column_map)
@@ -29,27 +30,27 @@ pub map_agrees : (n : ℕ) → n < 1450 → covers n (get_or column_map n 0) ≡
 map_agrees n h = at covers 0 column_map all_agree n (rw map_length h)
 
 -- ---- the rows that hold a column
-does_hold : (row : List ℕ) (column : ℕ) → first_in row ≤ column → column ≤ last_in row → holds row column ≡ true
+does_hold : (row : Field) (column : ℕ) → first_in row ≤ column → column ≤ last_in row → holds row column ≡ true
 unfolding holds
 does_hold row column low high = rw (le-leb (first_in row) column low, le-leb column (last_in row) high)
 
-not_before : (row : List ℕ) (column : ℕ) → column < first_in row → holds row column ≡ false
+not_before : (row : Field) (column : ℕ) → column < first_in row → holds row column ≡ false
 unfolding holds
 not_before row column h = rw (lt-leb (first_in row) column h)
 
-not_behind : (row : List ℕ) (column : ℕ) → last_in row < column → holds row column ≡ false
+not_behind : (row : Field) (column : ℕ) → last_in row < column → holds row column ≡ false
 unfolding holds
 not_behind row column h = rw (lt-leb column (last_in row) h, and-false)
 
 module _ (column : ℕ) where
-  none_holds : (k : ℕ) (rows : List (List ℕ)) → ((i : ℕ) → i < length rows → holds (get_or rows i []) column ≡ false) → holding column k rows ≡ []
+  none_holds : (k : ℕ) (rows : List Field) → ((i : ℕ) → i < length rows → holds (get_or rows i no_row) column ≡ false) → holding column k rows ≡ []
   unfolding holding
   none_holds k [] none = refl
   none_holds k (row ∷ rows) none =
       rw (none 0 (omega arith)) (none_holds (suc k) rows (λ i h. none (suc i) (omega arith)))
 
-  one_holds : (from k : ℕ) (rows : List (List ℕ)) (i : ℕ) → tiles 290 from rows ≡ true → i < length rows
-      → first_in (get_or rows i []) ≤ column → column ≤ last_in (get_or rows i []) → holding column k rows ≡ (k + i) ∷ []
+  one_holds : (from k : ℕ) (rows : List Field) (i : ℕ) → tiles 290 from rows ≡ true → i < length rows
+      → first_in (get_or rows i no_row) ≤ column → column ≤ last_in (get_or rows i no_row) → holding column k rows ≡ (k + i) ∷ []
   unfolding holding
   one_holds from k [] i t h low high = absurd (not-suc-le-zero h)
   one_holds from k (row ∷ rows) zero t h low high =
@@ -57,7 +58,7 @@ module _ (column : ℕ) where
       rw (does_hold row column low high, add-zero)
       (ap (λ (l : List ℕ). k ∷ l)
       (none_holds (suc k) rows
-      (λ i below. not_before (get_or rows i []) column (omega (arith, (row_within 290 (last_in row + 1) rows i rest below).0)))))
+      (λ i below. not_before (get_or rows i no_row) column (omega (arith, (row_within 290 (last_in row + 1) rows i rest below).0)))))
   one_holds from k (row ∷ rows) (suc i) t h low high =
       let rest = (tiles_first 290 from row rows t).2 in
       let below = le_of_suc-le-suc h in
@@ -67,7 +68,7 @@ module _ (column : ℕ) where
 
 -- ---- the field of a column
 module _ (kind : ℕ) (h : kind < 5) where
-  row_inside : (i : ℕ) → i < length (rows_of kind) → (1 ≤ first_in (get_or (rows_of kind) i [])) × (last_in (get_or (rows_of kind) i []) ≤ 290)
+  row_inside : (i : ℕ) → i < length (rows_of kind) → (1 ≤ first_in (get_or (rows_of kind) i no_row)) × (last_in (get_or (rows_of kind) i no_row) ≤ 290)
   row_inside i below = let w = row_within 290 1 (rows_of kind) i (rows_tile kind h) below in (w.0, w.2)
 
   pub before_first : fields_at kind 0 ≡ []
@@ -81,7 +82,7 @@ module _ (kind : ℕ) (h : kind < 5) where
 
   -- A column of a field lies in that field, and in no other of its record.
   pub field_of_row : (k column : ℕ) → first_field kind ≤ k → k < first_field (suc kind)
-      → first_in (get_or fields k []) ≤ column → column ≤ last_in (get_or fields k []) → fields_at kind column ≡ k ∷ []
+      → first_in (get_or fields k no_row) ≤ column → column ≤ last_in (get_or fields k no_row) → fields_at kind column ≡ k ∷ []
   unfolding fields_at
   field_of_row k column from to low high =
       let i = k - first_field kind in

@@ -1,22 +1,23 @@
 -- Definitions: the list of fields: "Columns and fields are the five tables of document 000".
 use Rattle.std.specs.Prelude.{ℕ, List, [], ◌∷◌, ◌++◌, get_or}
 use Rattle.field.specs.declared.class.Class.TheVariants.{RecordLetter, BlankSpace, Numeric, AccountNumber, Flag, ThirdQuarterFlag, Period, RequiredText, OptionalText, PersonName, EntityCode, StateCode, ZipCode, ZipExtension, TaxYear, EmployerFein, IdentityNumber, CeaseDate}
+use Rattle.field.specs.declared.class.Field.{Field}
 use Rattle.edits.specs.FieldRow.{row}
 
 -- The five tables row by row: each row has the table's location, and beside it stands the table's name of the field. A field that rules, meaning, writers
 -- or the fast path name has its row above the table.
 
 -- Transmitter (A) Record, "17 fields"
-abbrev pub year_of_a : List ℕ
+abbrev pub year_of_a : Field
 year_of_a = row TaxYear 2 5
 
-abbrev pub period_of_a : List ℕ
+abbrev pub period_of_a : Field
 period_of_a = row Period 19 20
 
-abbrev pub state_of_a : List ℕ
+abbrev pub state_of_a : Field
 state_of_a = row StateCode 139 140
 
-unfoldable pub fields_of_a : List (List ℕ)
+unfoldable pub fields_of_a : List Field
 fields_of_a =
     row RecordLetter 1 1 ∷  -- Record Identifier
     year_of_a ∷  -- Tax Year
@@ -38,34 +39,34 @@ fields_of_a =
     []
 
 -- Employer (E) Record, "28"
-abbrev pub year_of_e : List ℕ
+abbrev pub year_of_e : Field
 year_of_e = row TaxYear 2 5
 
-abbrev pub fein_of_e : List ℕ
+abbrev pub fein_of_e : Field
 fein_of_e = row EmployerFein 6 14
 
-abbrev pub state_of_e : List ℕ
+abbrev pub state_of_e : Field
 state_of_e = row StateCode 139 140
 
-abbrev pub account_of_e : List ℕ
+abbrev pub account_of_e : Field
 account_of_e = row AccountNumber 173 182
 
-abbrev pub amended_of_e : List ℕ
+abbrev pub amended_of_e : Field
 amended_of_e = row Flag 187 187
 
-abbrev pub period_of_e : List ℕ
+abbrev pub period_of_e : Field
 period_of_e = row Period 188 189
 
-abbrev pub no_wages_of_e : List ℕ
+abbrev pub no_wages_of_e : Field
 no_wages_of_e = row Flag 190 190
 
-abbrev pub final_of_e : List ℕ
+abbrev pub final_of_e : Field
 final_of_e = row Flag 282 282
 
-abbrev pub cease_date_of_e : List ℕ
+abbrev pub cease_date_of_e : Field
 cease_date_of_e = row CeaseDate 283 290
 
-unfoldable pub fields_of_e : List (List ℕ)
+unfoldable pub fields_of_e : List Field
 fields_of_e =
     row RecordLetter 1 1 ∷  -- Record Identifier
     year_of_e ∷  -- Tax Year
@@ -98,34 +99,34 @@ fields_of_e =
     []
 
 -- Employee (S) Record, "12": 13 rows, since "S 46-51 is read as two, 46-47 and 48-51"
-abbrev pub letter_of_s : List ℕ
+abbrev pub letter_of_s : Field
 letter_of_s = row RecordLetter 1 1
 
-abbrev pub identity_of_s : List ℕ
+abbrev pub identity_of_s : Field
 identity_of_s = row IdentityNumber 2 10
 
-abbrev pub last_name_of_s : List ℕ
+abbrev pub last_name_of_s : Field
 last_name_of_s = row PersonName 11 30
 
-abbrev pub first_name_of_s : List ℕ
+abbrev pub first_name_of_s : Field
 first_name_of_s = row PersonName 31 42
 
-abbrev pub period_of_s : List ℕ
+abbrev pub period_of_s : Field
 period_of_s = row Period 46 47
 
-abbrev pub year_of_s : List ℕ
+abbrev pub year_of_s : Field
 year_of_s = row TaxYear 48 51
 
-abbrev pub wages_of_s : List ℕ
+abbrev pub wages_of_s : Field
 wages_of_s = row Numeric 64 77
 
-abbrev pub code_of_s : List ℕ
+abbrev pub code_of_s : Field
 code_of_s = row EntityCode 143 146
 
-abbrev pub fein_of_s : List ℕ
+abbrev pub fein_of_s : Field
 fein_of_s = row Numeric 147 155
 
-unfoldable pub fields_of_s : List (List ℕ)
+unfoldable pub fields_of_s : List Field
 fields_of_s =
     letter_of_s ∷  -- Record Identifier
     identity_of_s ∷  -- Social Security Number / ITIN
@@ -143,28 +144,28 @@ fields_of_s =
     []
 
 -- Total (T) Record, "7"
-abbrev pub letter_of_t : List ℕ
+abbrev pub letter_of_t : Field
 letter_of_t = row RecordLetter 1 1
 
-abbrev pub count_of_t : List ℕ
+abbrev pub count_of_t : Field
 count_of_t = row Numeric 2 8
 
-abbrev pub code_of_t : List ℕ
+abbrev pub code_of_t : Field
 code_of_t = row EntityCode 9 12
 
-abbrev pub fein_of_t : List ℕ
+abbrev pub fein_of_t : Field
 fein_of_t = row Numeric 13 21
 
-abbrev pub blank_of_t : List ℕ
+abbrev pub blank_of_t : Field
 blank_of_t = row BlankSpace 22 26
 
-abbrev pub wages_of_t : List ℕ
+abbrev pub wages_of_t : Field
 wages_of_t = row Numeric 27 40
 
-abbrev pub rest_of_t : List ℕ
+abbrev pub rest_of_t : Field
 rest_of_t = row BlankSpace 41 290
 
-unfoldable pub fields_of_t : List (List ℕ)
+unfoldable pub fields_of_t : List Field
 fields_of_t =
     letter_of_t ∷  -- Record Identifier
     count_of_t ∷  -- Total Number of S Records
@@ -176,28 +177,28 @@ fields_of_t =
     []
 
 -- Final (F) Record, "7"
-abbrev pub letter_of_f : List ℕ
+abbrev pub letter_of_f : Field
 letter_of_f = row RecordLetter 1 1
 
-abbrev pub count_of_f : List ℕ
+abbrev pub count_of_f : Field
 count_of_f = row Numeric 2 11
 
-abbrev pub employers_of_f : List ℕ
+abbrev pub employers_of_f : Field
 employers_of_f = row Numeric 12 21
 
-abbrev pub code_of_f : List ℕ
+abbrev pub code_of_f : Field
 code_of_f = row EntityCode 22 25
 
-abbrev pub blank_of_f : List ℕ
+abbrev pub blank_of_f : Field
 blank_of_f = row BlankSpace 26 40
 
-abbrev pub wages_of_f : List ℕ
+abbrev pub wages_of_f : Field
 wages_of_f = row Numeric 41 55
 
-abbrev pub rest_of_f : List ℕ
+abbrev pub rest_of_f : Field
 rest_of_f = row BlankSpace 56 290
 
-unfoldable pub fields_of_f : List (List ℕ)
+unfoldable pub fields_of_f : List Field
 fields_of_f =
     letter_of_f ∷  -- Record Identifier
     count_of_f ∷  -- Total Number of S Records in File
@@ -209,15 +210,15 @@ fields_of_f =
     []
 
 -- The records, counted from 0 in the order A, E, S, T, F.
-unfoldable pub records : List (List (List ℕ))
+unfoldable pub records : List (List Field)
 records = fields_of_a ∷ fields_of_e ∷ fields_of_s ∷ fields_of_t ∷ fields_of_f ∷ []
 
 -- The fields of a record; past the five records there is none.
-abbrev pub rows_of : ℕ → List (List ℕ)
+abbrev pub rows_of : ℕ → List Field
 rows_of kind = get_or records kind []
 
 -- "so 72 in all": the fields, counted from 0, record after record
-unfoldable pub fields : List (List ℕ)
+unfoldable pub fields : List Field
 fields = fields_of_a ++ fields_of_e ++ fields_of_s ++ fields_of_t ++ fields_of_f
 
 -- Where the fields of each record begin in the list. Past the five records, after it.

@@ -1,36 +1,35 @@
 -- Laws: each row of the list is fit: its columns lie in the record, its class has a number, and it is as wide as its class asks.
-use Rattle.std.specs.Prelude.{ℕ, ◌≤◌, ◌<◌, Bool, true, false, ◌&&◌, ◌≡◌, T, eqb, leb, ltb, get_or, if◌then◌else◌}
-use mathlib.Core.List.{List, [], ◌∷◌}
-use Rattle.std.proofs.Common.{sym, ap, ◌∙◌, leb-true, ltb-true, eqb-true}
+use Rattle.std.specs.Prelude.{ℕ, ◌≤◌, ◌<◌, Bool, true, false, ◌&&◌, ◌≡◌, T, leb, ltb, get_or, if◌then◌else◌}
+use Rattle.std.proofs.Common.{leb-true, ltb-true}
 use Rattle.laws.specs.ChoiceLaws.{both_hold, within}
 use Rattle.laws.specs.Table.{every, at}
-use Rattle.field.specs.Classes.{class_number, class_of}
-use Rattle.field.specs.ClassLaws.{class_again}
+use Rattle.field.specs.Classes.{class_number}
+use Rattle.field.specs.declared.class.Field.{Field}
 use Rattle.field.specs.declared.class.Class.{Class}
 use Rattle.field.specs.declared.class.Class.TheVariants.{Ignored, RecordLetter, BlankSpace, Numeric, AccountNumber, Flag, ThirdQuarterFlag, Period, RequiredText, OptionalText, PersonName, EntityCode, StateCode, ZipCode, ZipExtension, TaxYear, EmployerFein, IdentityNumber, CeaseDate, More}
-use Rattle.edits.specs.FieldRow.{class_in, first_in, last_in, width_in}
+use Rattle.edits.specs.FieldRow.{no_row, class_in, first_in, last_in, width_in}
 use Rattle.edits.specs.RowTests.{width_test}
 use Rattle.pfml_fields.specs.Fields.{fields_of_a, fields_of_e, fields_of_s, fields_of_t, fields_of_f, fields}
 use Rattle.pfml_fields.specs.Rows.{all_fields_lem}
 
 -- ---- the columns of a row
-pub record Fits (row : List ℕ) : Type 0 where
+pub record Fits (row : Field) : Type 0 where
   pub from_one : 1 ≤ first_in row
   pub in_order : first_in row ≤ last_in row
   pub to_end : last_in row ≤ 290
-  pub class_known : class_in row < 19
+  pub class_known : class_number (class_in row) < 19
 
-fits : ℕ → List ℕ → Bool
-fits k row = leb 1 (first_in row) && leb (first_in row) (last_in row) && leb (last_in row) 290 && ltb (class_in row) 19
+fits : ℕ → Field → Bool
+fits k row = leb 1 (first_in row) && leb (first_in row) (last_in row) && leb (last_in row) 290 && ltb (class_number (class_in row)) 19
 
-all_fit : T (every fits [] 0 fields)
+all_fit : T (every fits no_row 0 fields)
 unfolding fits fields fields_of_a fields_of_e fields_of_s fields_of_t fields_of_f
 all_fit = tt
 
-pub row_fits : (k : ℕ) → k < 72 → Fits (get_or fields k [])
+pub row_fits : (k : ℕ) → k < 72 → Fits (get_or fields k no_row)
 unfolding fits
 row_fits k h =
-    let known = both_hold _ _ (at fits [] fields all_fit k (rw all_fields_lem h)) in
+    let known = both_hold _ _ (at fits no_row fields all_fit k (rw all_fields_lem h)) in
     let end = both_hold _ _ known.0 in
     let columns = both_hold _ _ end.0 in
     record {
@@ -41,38 +40,21 @@ row_fits k h =
     }
 
 -- ---- the class of a row
--- the classes in the order of their numbers
-by_number : List Class
-by_number =
-    Ignored ∷ RecordLetter ∷ BlankSpace ∷ Numeric ∷ AccountNumber ∷ Flag ∷ ThirdQuarterFlag ∷ Period ∷ RequiredText ∷ OptionalText ∷ PersonName ∷
-    EntityCode ∷ StateCode ∷ ZipCode ∷ ZipExtension ∷ TaxYear ∷ EmployerFein ∷ IdentityNumber ∷ CeaseDate ∷ []
-
-has_number : ℕ → Class → Bool
-has_number n class = eqb (class_number class) n
-
-has_number_lem : (n : ℕ) → n < 19 → class_number (get_or by_number n Ignored) ≡ n
-unfolding by_number has_number
-has_number_lem n h = eqb-true _ n (at has_number Ignored by_number tt n h)
-
-class_is : (n : ℕ) → n < 19 → get_or by_number n Ignored ≡ class_of n
-class_is n h = sym (class_again (get_or by_number n Ignored)) ∙ ap class_of (has_number_lem n h)
-
 -- a rule of the class and the width, at each row of the list
 module _ (rule : Class → ℕ → Bool) where
-  obeys : ℕ → List ℕ → Bool
-  obeys k row = rule (get_or by_number (class_in row) Ignored) (width_in row)
+  obeys : ℕ → Field → Bool
+  obeys k row = rule (class_in row) (width_in row)
 
-  at_row : T (every obeys [] 0 fields) → (k : ℕ) → k < 72 → rule (class_of (class_in (get_or fields k []))) (width_in (get_or fields k [])) ≡ true
+  at_row : T (every obeys no_row 0 fields) → (k : ℕ) → k < 72 → rule (class_in (get_or fields k no_row)) (width_in (get_or fields k no_row)) ≡ true
   unfolding obeys
-  at_row t k h =
-      rw (class_is _ (row_fits k h).class_known) at (at obeys [] fields t k (rw all_fields_lem h))
+  at_row t k h = at obeys no_row fields t k (rw all_fields_lem h)
 
 -- ---- the width of a class
-all_wide : T (every (obeys width_test) [] 0 fields)
-unfolding obeys by_number fields fields_of_a fields_of_e fields_of_s fields_of_t fields_of_f
+all_wide : T (every (obeys width_test) no_row 0 fields)
+unfolding obeys fields fields_of_a fields_of_e fields_of_s fields_of_t fields_of_f
 all_wide = tt
 
-pub class_widths : (k : ℕ) → k < 72 → width_test (class_of (class_in (get_or fields k []))) (width_in (get_or fields k [])) ≡ true
+pub class_widths : (k : ℕ) → k < 72 → width_test (class_in (get_or fields k no_row)) (width_in (get_or fields k no_row)) ≡ true
 class_widths k h = at_row width_test all_wide k h
 
 -- ---- the width of a number
@@ -103,11 +85,11 @@ is_number (More class) = false
 abbrev number_test : Class → ℕ → Bool
 number_test class width = if is_number class then leb 1 width && leb width 15 else true
 
-all_short : T (every (obeys number_test) [] 0 fields)
-unfolding obeys by_number fields fields_of_a fields_of_e fields_of_s fields_of_t fields_of_f
+all_short : T (every (obeys number_test) no_row 0 fields)
+unfolding obeys fields fields_of_a fields_of_e fields_of_s fields_of_t fields_of_f
 all_short = tt
 
 -- A number has at most 15 digits, so that it fits 64 bits.
-pub number_width : (k : ℕ) → k < 72 → is_number (class_of (class_in (get_or fields k []))) ≡ true
-    → (1 ≤ width_in (get_or fields k [])) × (width_in (get_or fields k []) ≤ 15)
-number_width k h number = within 1 (width_in (get_or fields k [])) 15 (rw number at (at_row number_test all_short k h))
+pub number_width : (k : ℕ) → k < 72 → is_number (class_in (get_or fields k no_row)) ≡ true
+    → (1 ≤ width_in (get_or fields k no_row)) × (width_in (get_or fields k no_row) ≤ 15)
+number_width k h number = within 1 (width_in (get_or fields k no_row)) 15 (rw number at (at_row number_test all_short k h))

@@ -1,6 +1,6 @@
 -- Laws: how many places the map has, that a column of no record has no field, and that no second answer has the same numbers.
 use Prim.Native.Nat.{ℕ, ◌≤◌}
-use Rattle.std.specs.Prelude.{◌≡◌, length}
+use Rattle.std.specs.Prelude.{◌≡◌, length, Option, Some, None}
 use mathlib.Core.List.{[]}
 use Rattle.std.proofs.Math.Path.{refl}
 use native.Mathlib.Omega.{arith}
@@ -8,8 +8,6 @@ use Rattle.std.proofs.Math.ListN.{get_or-eq_default}
 use Rattle.pfml_fields.specs.Fields.{fields_of_a, fields_of_e, fields_of_s, fields_of_t, fields_of_f, records, fields}
 use Rattle.pfml_fields.specs.Rows.{five_records}
 use Rattle.pfml_fields.specs.Map.{spread, column_map, holding, fields_at, numbers_of}
-use Rattle.pfml_fields.specs.declared.FieldAt.{FieldAt}
-use Rattle.pfml_fields.specs.declared.FieldAt.TheVariants.{Field, Nowhere}
 
 -- ---- the map
 pub map_length : length column_map ≡ 1450
@@ -26,8 +24,8 @@ no_record kind column h =
 
 -- ---- the answer
 -- No second answer has the same numbers.
-pub same_field_at : (a b : FieldAt) → numbers_of a ≡ numbers_of b → a ≡ b
-same_field_at (Field k) (Field j) e = let n : k ≡ j = cc in cc
-same_field_at (Field k) Nowhere e = let z : ◌≡◌ {A = ℕ} 0 1 = cc in absurd (omega arith)
-same_field_at Nowhere (Field j) e = let z : ◌≡◌ {A = ℕ} 0 1 = cc in absurd (omega arith)
-same_field_at Nowhere Nowhere e = refl
+pub same_field_at : (a b : Option ℕ) → numbers_of a ≡ numbers_of b → a ≡ b
+same_field_at (Some k) (Some j) e = let n : k ≡ j = cc in cc
+same_field_at (Some k) None e = let z : ◌≡◌ {A = ℕ} 0 1 = cc in absurd (omega arith)
+same_field_at None (Some j) e = let z : ◌≡◌ {A = ℕ} 0 1 = cc in absurd (omega arith)
+same_field_at None None e = refl

@@ -5,11 +5,11 @@ use Rattle.std.proofs.Common.{sym, ap, ◌∙◌, not-suc-le-zero, zero-add, add
 use Rattle.std.proofs.Math.ListN.{get_or-append}
 use borrow.Author.Tests.{eqb-true, leb-true}
 use Rattle.laws.specs.ChoiceLaws.{both_hold}
-use Rattle.laws.specs.Lists.{any_default}
 use Rattle.laws.specs.Table.{every, at}
 use Rattle.field.specs.declared.class.Class.TheVariants.{RecordLetter, BlankSpace, Numeric, AccountNumber, PersonName, EntityCode, TaxYear, EmployerFein, IdentityNumber, Period}
 use Rattle.edits.specs.FieldRow.{row, no_row}
 use Rattle.pfml_fields.specs.Fields.{fields_of_a, fields_of_e, fields_of_s, fields_of_t, fields_of_f, records, rows_of, fields, starts, first_field}
+use Rattle.field.specs.declared.class.Field.{Field}
 
 pub five_records : length records ≡ 5
 unfolding records
@@ -24,22 +24,22 @@ unfolding fields fields_of_a fields_of_e fields_of_s fields_of_t fields_of_f
 all_fields_lem = refl
 
 -- ---- lists of rows joined to one
-abbrev joined : List (List (List ℕ)) → List (List ℕ)
+abbrev joined : List (List Field) → List Field
 joined [] = []
 joined (rows ∷ rest) = rows ++ joined rest
 
 -- how many rows stand before those of list `kind`
-abbrev ahead : List (List (List ℕ)) → ℕ → ℕ
+abbrev ahead : List (List Field) → ℕ → ℕ
 ahead [] kind = 0
 ahead (rows ∷ rest) zero = 0
 ahead (rows ∷ rest) (suc kind) = length rows + ahead rest kind
 
-joined_at : (lists : List (List (List ℕ))) (kind i : ℕ) → i < length (get_or lists kind [])
-    → get_or (joined lists) (ahead lists kind + i) [] ≡ get_or (get_or lists kind []) i []
+joined_at : (lists : List (List Field)) (kind i : ℕ) → i < length (get_or lists kind [])
+    → get_or (joined lists) (ahead lists kind + i) no_row ≡ get_or (get_or lists kind []) i no_row
 joined_at [] kind i h = absurd (not-suc-le-zero h)
-joined_at (rows ∷ rest) zero i h = rw zero-add (get_or-append rows (joined rest) [] i h)
+joined_at (rows ∷ rest) zero i h = rw zero-add (get_or-append rows (joined rest) no_row i h)
 joined_at (rows ∷ rest) (suc kind) i h =
-    rw (add_assoc, get_or-append-add rows (joined rest) (ahead rest kind + i) []) (joined_at rest kind i h)
+    rw (add_assoc, get_or-append-add rows (joined rest) (ahead rest kind + i) no_row) (joined_at rest kind i h)
 
 -- ---- the five records
 is_joined : fields ≡ joined records
@@ -47,14 +47,14 @@ unfolding fields records fields_of_a fields_of_e fields_of_s fields_of_t fields_
 is_joined = refl
 
 -- a record's first field stands after the records before it, and the next record's after its own fields
-in_place : ℕ → List (List ℕ) → Bool
+in_place : ℕ → List Field → Bool
 in_place kind rows = eqb (first_field kind) (ahead records kind) && eqb (first_field (suc kind)) (first_field kind + length rows)
 
 all_in_place : T (every in_place [] 0 records)
 unfolding in_place first_field starts records fields_of_a fields_of_e fields_of_s fields_of_t fields_of_f
 all_in_place = tt
 
-within_all : ℕ → List (List ℕ) → Bool
+within_all : ℕ → List Field → Bool
 within_all kind rows = leb (first_field (suc kind)) (length fields)
 
 all_within : T (every within_all [] 0 records)
@@ -81,10 +81,10 @@ module _ (kind : ℕ) (h : kind < 5) where
     in_record = omega (arith, in_place_lem.1)
 
     -- and stands as far after the record's first field as in the table.
-    pub row_of_record : get_or fields k [] ≡ get_or (rows_of kind) (k - first_field kind) []
+    pub row_of_record : get_or fields k no_row ≡ get_or (rows_of kind) (k - first_field kind) no_row
     row_of_record =
         let here : ahead records kind + (k - first_field kind) ≡ k = omega (arith, in_place_lem.0) in
-        rw is_joined (ap (λ (n : ℕ). get_or (joined records) n []) (sym here) ∙ joined_at records kind (k - first_field kind) in_record)
+        rw is_joined (ap (λ (n : ℕ). get_or (joined records) n no_row) (sym here) ∙ joined_at records kind (k - first_field kind) in_record)
 
 -- How many fields a record has, and each of them in the list of all; past the five records there is none.
 pub fields_counted : (kind : ℕ) → kind < 5 → first_field (kind + 1) ≡ first_field kind + length (rows_of kind)
@@ -95,10 +95,8 @@ field_in_all kind h k l =
     let all = first_field kind + k in
     let back : all - first_field kind ≡ k = omega arith in
     let next = (in_place_lem kind h).1 in
-    any_default fields all no_row [] (in_list kind h k l)
-    ∙ row_of_record kind h all (omega arith) (omega arith)
-    ∙ ap (λ (n : ℕ). get_or (rows_of kind) n []) back
-    ∙ any_default (rows_of kind) k [] no_row l
+    row_of_record kind h all (omega arith) (omega arith)
+    ∙ ap (λ (n : ℕ). get_or (rows_of kind) n no_row) back
 
 -- ---- the records one by one
 pub rows_in_order : (rows_of 0 ≡ fields_of_a) × (rows_of 1 ≡ fields_of_e) × (rows_of 2 ≡ fields_of_s) × (rows_of 3 ≡ fields_of_t) × (rows_of 4 ≡ fields_of_f) × (rows_of 5 ≡ [])
@@ -106,7 +104,7 @@ unfolding records
 rows_in_order = (refl, refl, refl, refl, refl, refl)
 
 -- Each begins with its letter.
-abbrev pub LetterFirst : List (List ℕ) → Type 0
+abbrev pub LetterFirst : List Field → Type 0
 LetterFirst rows = (0 < length rows) × (get_or rows 0 no_row ≡ row RecordLetter 1 1)
 
 pub letters_first : LetterFirst fields_of_a × LetterFirst fields_of_e × LetterFirst fields_of_s × LetterFirst fields_of_t × LetterFirst fields_of_f

@@ -1,92 +1,94 @@
 // By which rule each field is held against its context.
+#![tactic(auto, unfolding(crate::specs::FieldRules::rules, crate::specs::FieldRules::rules_of_a, crate::specs::FieldRules::rules_of_e, crate::specs::FieldRules::rules_of_f, crate::specs::FieldRules::rules_of_s, crate::specs::FieldRules::rules_of_t))]
+
 ghost use Rattle.std.specs.Prelude.{◌≡◌};
 ghost use Rattle.pfml_fields.specs.FieldRules.{rules};
 
-use edits::held_by;
+use edits::Rule;
 
-// A number for each row of the list of fields, in its order.
-const RULES: [u8; 72] = [
+// A rule for each row of the list of fields, in its order.
+const RULES: [Rule; 72] = [
     // A: the transmitter
-    held_by::NOTHING,
-    held_by::YEAR_IN_TIME, // Tax Year
-    held_by::NOTHING,
-    held_by::NOTHING,
-    held_by::QUARTER_IN_TIME, // Period Covered
-    held_by::NOTHING,
-    held_by::NOTHING,
-    held_by::NOTHING,
-    held_by::NOTHING,
-    held_by::NOTHING,
-    held_by::NOTHING,
-    held_by::NOTHING,
-    held_by::NOTHING,
-    held_by::NOTHING,
-    held_by::NOTHING,
-    held_by::NOTHING,
-    held_by::NOTHING,
+    Rule::Nothing,
+    Rule::YearInTime, // Tax Year
+    Rule::Nothing,
+    Rule::Nothing,
+    Rule::QuarterInTime, // Period Covered
+    Rule::Nothing,
+    Rule::Nothing,
+    Rule::Nothing,
+    Rule::Nothing,
+    Rule::Nothing,
+    Rule::Nothing,
+    Rule::Nothing,
+    Rule::Nothing,
+    Rule::Nothing,
+    Rule::Nothing,
+    Rule::Nothing,
+    Rule::Nothing,
     // E: an employer
-    held_by::NOTHING,
-    held_by::YEAR_OF_A, // Tax Year
-    held_by::FEIN_NEW, // Employer Federal Employer ID Number
-    held_by::NOTHING,
-    held_by::NOTHING,
-    held_by::NOTHING,
-    held_by::NOTHING,
-    held_by::NOTHING,
-    held_by::NOTHING,
-    held_by::NOTHING,
-    held_by::NOTHING,
-    held_by::NOTHING,
-    held_by::NOTHING,
-    held_by::NOTHING,
-    held_by::NOTHING,
-    held_by::NOTHING,
-    held_by::NOTHING,
-    held_by::PERIOD_OF_A, // Period Covered
-    held_by::NOTHING,
-    held_by::NOTHING,
-    held_by::NOTHING,
-    held_by::NOTHING,
-    held_by::NOTHING,
-    held_by::NOTHING,
-    held_by::NOTHING,
-    held_by::NOTHING,
-    held_by::FINAL_IF_CURRENT, // Is this your final return?
-    held_by::DATE_IN_QUARTER, // Cease Date
+    Rule::Nothing,
+    Rule::YearOfA, // Tax Year
+    Rule::FeinNew, // Employer Federal Employer ID Number
+    Rule::Nothing,
+    Rule::Nothing,
+    Rule::Nothing,
+    Rule::Nothing,
+    Rule::Nothing,
+    Rule::Nothing,
+    Rule::Nothing,
+    Rule::Nothing,
+    Rule::Nothing,
+    Rule::Nothing,
+    Rule::Nothing,
+    Rule::Nothing,
+    Rule::Nothing,
+    Rule::Nothing,
+    Rule::PeriodOfA, // Period Covered
+    Rule::Nothing,
+    Rule::Nothing,
+    Rule::Nothing,
+    Rule::Nothing,
+    Rule::Nothing,
+    Rule::Nothing,
+    Rule::Nothing,
+    Rule::Nothing,
+    Rule::FinalIfCurrent, // Is this your final return?
+    Rule::DateInQuarter, // Cease Date
     // S: an employee
-    held_by::NOTHING,
-    held_by::IDENTITY_NEW, // Social Security Number / ITIN
-    held_by::NOTHING,
-    held_by::NOTHING,
-    held_by::NOTHING,
-    held_by::PERIOD_OF_A, // Reporting Quarter and Year: the quarter
-    held_by::YEAR_OF_A, // Reporting Quarter and Year: the year
-    held_by::NOTHING,
-    held_by::NOTHING,
-    held_by::NOTHING,
-    held_by::NOTHING,
-    held_by::FEIN_OF_E, // Employer's FEIN
-    held_by::NOTHING,
+    Rule::Nothing,
+    Rule::IdentityNew, // Social Security Number / ITIN
+    Rule::Nothing,
+    Rule::Nothing,
+    Rule::Nothing,
+    Rule::PeriodOfA, // Reporting Quarter and Year: the quarter
+    Rule::YearOfA, // Reporting Quarter and Year: the year
+    Rule::Nothing,
+    Rule::Nothing,
+    Rule::Nothing,
+    Rule::Nothing,
+    Rule::FeinOfE, // Employer's FEIN
+    Rule::Nothing,
     // T: the totals of an employer
-    held_by::NOTHING,
-    held_by::COUNT_OF_S, // Total Number of S Records
-    held_by::NOTHING,
-    held_by::FEIN_OF_E, // Employer's FEIN
-    held_by::NOTHING,
-    held_by::WAGES_OF_S, // Total Wages Paid This Quarter
-    held_by::NOTHING,
+    Rule::Nothing,
+    Rule::CountOfS, // Total Number of S Records
+    Rule::Nothing,
+    Rule::FeinOfE, // Employer's FEIN
+    Rule::Nothing,
+    Rule::WagesOfS, // Total Wages Paid This Quarter
+    Rule::Nothing,
     // F: the end of the file
-    held_by::NOTHING,
-    held_by::FILE_COUNT_OF_S, // Total Number of S Records in File
-    held_by::FILE_COUNT_OF_E, // Total Number of E Records in File
-    held_by::NOTHING,
-    held_by::NOTHING,
-    held_by::FILE_WAGES_OF_S, // Total Wages in File
-    held_by::NOTHING,
+    Rule::Nothing,
+    Rule::FileCountOfS, // Total Number of S Records in File
+    Rule::FileCountOfE, // Total Number of E Records in File
+    Rule::Nothing,
+    Rule::Nothing,
+    Rule::FileWagesOfS, // Total Wages in File
+    Rule::Nothing,
 ];
 
 // The rules as a value, which a caller binds once and lends.
-pub fn all_rules() -> [u8; 72]
+pub fn all_rules() -> [Rule; 72]
     ensures { result ≡ rules }
 {
     RULES

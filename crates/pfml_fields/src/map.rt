@@ -1,4 +1,6 @@
 // The map of columns.
+#![tactic(auto, unfolding(crate::specs::Fields::fields, crate::specs::Fields::fields_of_a, crate::specs::Fields::fields_of_e, crate::specs::Fields::fields_of_f, crate::specs::Fields::fields_of_s, crate::specs::Fields::fields_of_t, crate::specs::Map::column_map, crate::specs::Map::spread))]
+
 ghost use Rattle.std.specs.Prelude.{◌≡◌};
 ghost use Rattle.pfml_fields.specs.Map.{column_map};
 

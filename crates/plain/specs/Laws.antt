@@ -1,6 +1,7 @@
 -- Laws: what may be relied on where a record is plain: it passes as an employee of the open employer, and its identity number and its size are small.
-use Rattle.std.specs.Prelude.{ℕ, ◌+◌, ◌≤◌, ◌<◌, Bool, true, false, not, ◌&&◌, ◌||◌, List, ◌≡◌, refl, eqb, leb, ltb, length, drop, if◌then◌else◌}
+use Rattle.std.specs.Prelude.{ℕ, ◌+◌, ◌≤◌, ◌<◌, Bool, true, false, not, ◌&&◌, ◌||◌, List, ◌≡◌, refl, eqb, leb, ltb, length, drop, if◌then◌else◌, Option, None, Some}
 use Rattle.std.proofs.lemmas.Bool.{false≢true, eqb-false, not-true}
+use Rattle.std.proofs.lemmas.Option.{none-some}
 use Rattle.std.proofs.Common.{sym, ap, subst, ◌∙◌, arith, eq-eqb, leb-true}
 use Rattle.laws.specs.ChoiceLaws.{both_hold}
 use Rattle.laws.specs.Finding.{Finding, fine, broken, value}
@@ -37,7 +38,7 @@ use Rattle.pfml.specs.Sums.{passes}
 use Rattle.pfml.specs.declared.kind.Kind.TheVariants.{Employee}
 use Rattle.shape.specs.declared.Said.TheVariants.{OfS}
 use Rattle.plain.specs.Passing.{text_on, no_end, ink, is_employee_lem, blank_field, code_field, number_read, digits_number, name_field, all_permitted}
-use Rattle.plain.specs.Plain.{lowest, highest, fits, within, id_in, wages_in, end_size, is_whole, is_plain, sight}
+use Rattle.plain.specs.Plain.{lowest, highest, fits, within, id_in, wages_in, end_size, is_whole, is_plain, sight, seen}
 use Rattle.plain.specs.Sweeps.{within_at, digits_below}
 use Rattle.plain.specs.Templates.{Between, digit_spans, name_spans, blank_spans, quarter_fits, reads_month, reads_year, reads_fein}
 use Rattle.plain.specs.declared.Sighted.{Sighted}
@@ -75,6 +76,9 @@ asked low high s e =
 abbrev seen_if : Bool → List ℕ → Sighted
 seen_if plain s = if plain then record { taken = 290 + end_size s; id = id_in s; wages = wages_in s } else record { taken = 0; id = 0; wages = 0 }
 
+abbrev seen_by_test : Bool → List ℕ → Option Sighted
+seen_by_test plain s = if plain then Some (record { taken = 290 + end_size s; id = id_in s; wages = wages_in s }) else None
+
 -- Where something is seen, the record is plain.
 plain_if : (plain : Bool) (s : List ℕ) → ((seen_if plain s).taken ≡ 0 → ⊥) → plain ≡ true
 plain_if true s some = refl
@@ -99,6 +103,23 @@ module _ (low high s : List ℕ) where
     by : (plain : Bool) → (seen_if plain s).id < 4294967296
     by true = omega (arith, digits_below 9 s 0 1 0 (omega arith))
     by false = omega arith
+
+-- Where nothing is seen no bytes are; and what is seen has bytes.
+module _ (low high s : List ℕ) where
+  pub none_seen : seen low high s ≡ None → (sight low high s).taken ≡ 0
+  none_seen none = by (is_plain low high s) none where
+    by : (plain : Bool) → seen_by_test plain s ≡ None → (seen_if plain s).taken ≡ 0
+    by true e = search
+    by false e = refl
+
+  pub some_seen : (v : Sighted) → seen low high s ≡ Some v → (v ≡ sight low high s) × (v.taken ≡ 0 → ⊥)
+  some_seen v some = by (is_plain low high s) some where
+    by : (plain : Bool) → seen_by_test plain s ≡ Some v → (v ≡ seen_if plain s) × (v.taken ≡ 0 → ⊥)
+    by true e =
+        let same : seen_if true s ≡ v = cc in
+        let taken = ap (λ (w : Sighted). w.taken) same in
+        (sym same, λ none. omega arith)
+    by false e = absurd (none-some v e)
 
 -- ---- its edits
 -- A number that is new where there is room: it was not seen, and there is room.

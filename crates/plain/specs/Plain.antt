@@ -1,6 +1,6 @@
 -- Follows the code; need not be believed. An S record that one sweep over its columns finds good: each column lies between those of two records, the
 -- lowest and the highest that this employer and A's quarter allow. What the sweep does not find good is only looked at more closely.
-use Rattle.std.specs.Prelude.{ℕ, zero, suc, ◌+◌, ◌-◌, ◌*◌, ◌%◌, Bool, true, not, ◌&&◌, List, eqb, leb, length, get_or, drop, if◌then◌else◌}
+use Rattle.std.specs.Prelude.{ℕ, zero, suc, ◌+◌, ◌-◌, ◌*◌, ◌%◌, Bool, true, not, ◌&&◌, List, eqb, leb, length, get_or, drop, if◌then◌else◌, Option, None, Some}
 use Rattle.laws.specs.Spelling.{bytes}
 use Rattle.lines.specs.Lines.{end_of}
 use Rattle.calendar.specs.Quarters.{is_allowed}
@@ -13,6 +13,7 @@ use Rattle.text.specs.Put.{blanks}
 use Rattle.edits.specs.FieldRow.{first_in, last_in, width_in, put_at, put_text_at, fill_at}
 use Rattle.pfml_fields.specs.Fields.{letter_of_s, identity_of_s, last_name_of_s, first_name_of_s, period_of_s, year_of_s, wages_of_s, code_of_s, fein_of_s}
 use Rattle.plain.specs.declared.Sighted.{Sighted}
+use Rattle.field.specs.declared.class.Field.{Field}
 
 -- ---- the two records
 -- An S record of any employer: its letter and code, one character in every column of its numbers, and blanks.
@@ -55,7 +56,7 @@ digits_from s v at zero = v
 digits_from s v at (suc n) = digits_from s (v * 10 + get_or s at 0 % 16) (at + 1) n
 
 -- The columns of a field so read: the identity number, and the wages.
-abbrev digits_at : List ℕ → List ℕ → ℕ
+abbrev digits_at : List ℕ → Field → ℕ
 digits_at s field = digits_from s 0 (first_in field - 1) (width_in field)
 
 abbrev pub id_in : List ℕ → ℕ
@@ -86,3 +87,7 @@ sight low high s =
     if is_plain low high s
     then record { taken = 290 + end_size s; id = id_in s; wages = wages_in s }
     else record { taken = 0; id = 0; wages = 0 }
+
+-- The same, as the code answers it: where no bytes are seen, nothing.
+abbrev pub seen : List ℕ → List ℕ → List ℕ → Option Sighted
+seen low high s = if is_plain low high s then Some (record { taken = 290 + end_size s; id = id_in s; wages = wages_in s }) else None

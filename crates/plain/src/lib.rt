@@ -1,9 +1,9 @@
 // The fast path, for one line: an S record of PFML that one sweep over its columns finds good,
 // without an exit on the way. What it does not find good is only looked at more closely.
-#![tactic(auto)]
+#![tactic(auto, unfolding(crate::specs::Plain::highest_of_all, crate::specs::Plain::lowest_of_all, crate::specs::Plain::of_employer, laws::specs::Spelling::bytes))]
 
 ghost use Rattle.std.specs.Prelude.{◌≡◌, ◌-◌, ◌≤◌, length, drop};
-ghost use Rattle.plain.specs.Plain.{of_digit, of_employer, lowest, highest, fits, within, digits_from, sight};
+ghost use Rattle.plain.specs.Plain.{of_digit, of_employer, lowest, highest, fits, within, digits_from, seen};
 
 use calendar::Quarter;
 use chars::columns;
@@ -15,7 +15,7 @@ use pfml_fields::{
 };
 
 // What is seen of a plain S record: the bytes that it and its end take, its identity number and its
-// wages. No bytes: look closer.
+// wages.
 #[derive(Clone, Copy)]
 pub struct Sighted {
     pub taken: usize,
@@ -23,22 +23,30 @@ pub struct Sighted {
     pub wages: u64,
 }
 
-const RECORD: usize = pfml_fields::RECORD as usize;
+// How many characters an S record has.
+pub const RECORD: usize = pfml_fields::RECORD as usize;
+
+// The lowest and the highest character that each column of an employer's S records may hold.
+#[derive(Clone, Copy)]
+pub struct Template {
+    pub low: [u8; RECORD],
+    pub high: [u8; RECORD],
+}
 
 const LETTER: [u8; 1] = *b"S";
 
 // The places of the identity number and of the wages, and the columns of both names.
-const ID_FROM: usize = IDENTITY_OF_S[1] as usize - 1;
+const ID_FROM: usize = IDENTITY_OF_S.first as usize - 1;
 
-const ID_TO: usize = IDENTITY_OF_S[2] as usize;
+const ID_TO: usize = IDENTITY_OF_S.last as usize;
 
-const WAGES_FROM: usize = WAGES_OF_S[1] as usize - 1;
+const WAGES_FROM: usize = WAGES_OF_S.first as usize - 1;
 
-const WAGES_TO: usize = WAGES_OF_S[2] as usize;
+const WAGES_TO: usize = WAGES_OF_S.last as usize;
 
-const NAMES_FIRST: u16 = LAST_NAME_OF_S[1];
+const NAMES_FIRST: u16 = LAST_NAME_OF_S.first;
 
-const NAMES_LAST: u16 = FIRST_NAME_OF_S[2];
+const NAMES_LAST: u16 = FIRST_NAME_OF_S.last;
 
 // The lowest character that is no blank.
 const LOWEST_INK: [u8; 1] = *b"!";
@@ -53,11 +61,9 @@ const WHOLE_LINE: usize = RECORD + 2;
 fn of_digit(digit: u8) -> [u8; RECORD]
     ensures { result ≡ of_digit digit }
 {
-    let letter = LETTER;
-    let code = pfml::ENTITY;
     let mut line = [b' '; RECORD];
-    rows::write_text_at(&mut line, LETTER_OF_S, &letter);
-    rows::write_text_at(&mut line, CODE_OF_S, &code);
+    rows::write_text_at(&mut line, LETTER_OF_S, &LETTER);
+    rows::write_text_at(&mut line, CODE_OF_S, &pfml::ENTITY);
     rows::fill_at(&mut line, IDENTITY_OF_S, digit);
     rows::fill_at(&mut line, PERIOD_OF_S, digit);
     rows::fill_at(&mut line, YEAR_OF_S, digit);
@@ -79,10 +85,9 @@ fn put_employer(line: &mut [u8], fein: u64, filed: Quarter)
 pub fn lowest(fein: u64, filed: Quarter) -> [u8; RECORD]
     ensures { result ≡ lowest fein filed }
 {
-    let ink = LOWEST_INK;
     let mut line = of_digit(b'0');
-    rows::write_text_at(&mut line, LAST_NAME_OF_S, &ink);
-    rows::write_text_at(&mut line, FIRST_NAME_OF_S, &ink);
+    rows::write_text_at(&mut line, LAST_NAME_OF_S, &LOWEST_INK);
+    rows::write_text_at(&mut line, FIRST_NAME_OF_S, &LOWEST_INK);
     put_employer(&mut line, fein, filed);
     line
 }
@@ -102,29 +107,25 @@ pub fn highest(fein: u64, filed: Quarter) -> [u8; RECORD]
 pub fn fits(fein: u64, filed: Quarter) -> bool
     ensures { result ≡ fits fein filed }
 {
-    if fein <= LAST_FEIN {
-        return calendar::is_allowed(filed);
-    }
-    false
+    fein <= LAST_FEIN && calendar::is_allowed(filed)
 }
 
-// Whether each column lies between those of the two records. Every one of them is looked at, so
-// that a compiler can compare several at once; the last two stand apart, so that it has none left
-// over.
-fn within(line: &[u8], low: &[u8], high: &[u8]) -> bool
-    requires { (290 ≤ length line.now) × (290 ≤ length low.now) × (290 ≤ length high.now) }
-    ensures { result ≡ within low.now high.now line.now 290 }
+// Whether each column lies between those of the template. Every one of them is looked at, so that a
+// compiler can compare several at once; the last two stand apart, so that it has none left over.
+fn within(line: &[u8], template: &Template) -> bool
+    requires { 290 ≤ length line.now }
+    ensures { result ≡ within template.now.low template.now.high line.now 290 }
 {
+    let low = &template.low;
+    let high = &template.high;
     let mut good = true;
-    let mut i = 0;
-    while i < 288 {
+    for i in 0..288 {
         let c = line[i];
-        good = good & ((low[i] <= c) & (c <= high[i]));
-        i += 1;
+        good &= (low[i] <= c) & (c <= high[i]);
     }
     let c = line[288];
     let last = line[289];
-    good = good & ((low[288] <= c) & (c <= high[288]));
+    good &= (low[288] <= c) & (c <= high[288]);
     good & ((low[289] <= last) & (last <= high[289]))
 }
 
@@ -134,66 +135,48 @@ fn digits_in(line: &[u8], from: usize, to: usize) -> u64
     ensures { result ≡ digits_from line.now 0 from (to - from) }
 {
     let mut v: u64 = 0;
-    let mut i = from;
-    while i < to {
-        v = v * 10 + number::wide(line[i] % 16);
-        i += 1;
+    for i in from..to {
+        v = v * 10 + u64::from(line[i] % 16);
     }
     v
 }
 
-fn nothing() -> Sighted
-    ensures { result ≡ record { taken = 0; id = 0; wages = 0 } }
-{
-    Sighted {
-        taken: 0,
-        id: 0,
-        wages: 0,
-    }
-}
-
 // The S record in front of bytes that hold a whole line.
-fn sight_here(line: &[u8], low: &[u8], high: &[u8]) -> Sighted
-    requires { (292 ≤ length line.now) × (290 ≤ length low.now) × (290 ≤ length high.now) }
-    ensures { result ≡ sight low.now high.now line.now }
+fn sight_here(line: &[u8], template: &Template) -> Option<Sighted>
+    requires { 292 ≤ length line.now }
+    ensures { result ≡ seen template.now.low template.now.high line.now }
 {
-    if !within(line, low, high) {
-        return nothing();
+    if !within(line, template) {
+        return None;
     }
     if !columns::all_hold(Allowed::OfNames, line, NAMES_FIRST, NAMES_LAST) {
-        return nothing();
+        return None;
     }
     let end = lines::end_length(line, RECORD);
     if end == 0 {
-        return nothing();
+        return None;
     }
     let id = digits_in(line, ID_FROM, ID_TO);
     if !rules::may_be_filed(id) {
-        return nothing();
+        return None;
     }
     let wages = digits_in(line, WAGES_FROM, WAGES_TO);
-    Sighted {
+    Some(Sighted {
         taken: RECORD + end,
         id,
         wages,
-    }
+    })
 }
 
-// The S record at a place of the bytes, seen in one sweep.
-pub fn sight_at(bytes: &[u8], at: usize, low: &[u8], high: &[u8]) -> Sighted
-    ensures { result ≡ sight low.now high.now (drop at bytes.now) }
+// The S record at a place of the bytes, seen in one sweep; none: look closer.
+pub fn sight_at(bytes: &[u8], at: usize, template: &Template) -> Option<Sighted>
+    ensures { result ≡ seen template.now.low template.now.high (drop at bytes.now) }
 {
-    if low.len() < RECORD {
-        return nothing();
-    }
-    if high.len() < RECORD {
-        return nothing();
-    }
     if bytes.len() < at {
-        return nothing();
+        return None;
     }
     if bytes.len() - at < WHOLE_LINE {
-        return nothing();
+        return None;
     }
-    sight_here(&bytes[at..], low, high)
+    sight_here(&bytes[at..], template)
 }

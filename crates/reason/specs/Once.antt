@@ -1,11 +1,11 @@
 -- Laws: each number of the paper's table has one reason and each reason one number, so that a promise in numbers leaves room for one answer.
-use Rattle.std.specs.Prelude.{ℕ, ◌<◌, Bool, true, List, [], ◌∷◌, ◌≡◌, refl, T, length, get_or}
-use Rattle.std.proofs.Common.{sym, ap, ◌∙◌, arith, eqb-true, eq-eqb, ne_eqb}
-use Rattle.laws.specs.Finding.{fine, broken}
+use Rattle.std.specs.Prelude.{ℕ, ◌<◌, Bool, true, List, [], ◌∷◌, ◌≡◌, refl, T, length, get_or, if◌then◌else◌, Result, Ok, Err, ⊤, false}
+use Rattle.std.proofs.Common.{sym, ap, ◌∙◌, arith, rules, eqb-true, eq-eqb, ne_eqb}
+use Rattle.laws.specs.Finding.{fine, broken, value, refused}
 use Rattle.laws.specs.Table.{every, at}
-use Rattle.reason.specs.ReasonNumbers.{number_of, reasons, having_number, reason_of, is_listed, finding_of, Notice, notice_of, listed}
-use Rattle.reason.specs.declared.Edit.{Edit}
-use Rattle.reason.specs.declared.Edit.TheVariants.{Passed, Broken}
+use Rattle.reason.specs.ReasonNumbers.{number_of, reasons, having_number, reason_of, is_listed, reason_listed, finding_of, reading_of, Notice, notice_of, listed}
+use Rattle.reason.specs.declared.Broken.{Broken}
+use Rattle.reason.specs.declared.NotListed.{NotListed}
 use Rattle.reason.specs.declared.Reason.{Reason}
 use Rattle.reason.specs.declared.Refusal.{Refusal}
 use Rattle.reason.specs.declared.Reason.TheVariants.{LineLength, NoLineEnd, BadCharacter, UnknownLetter, EndsBeforeA, EndsAfterA, EndsWithEOpen, EndsWithoutF, BeforeA, SecondA, SWithoutE, TWithoutE, FWithoutE, EWhileEOpen, SUnderZeroE, FWhileEOpen, SecondT, SecondF, BehindF, NotDigit, NotBlank, TextMissing, TextIndented, NotEntityCode, UnknownState, BadZip, BadZipExtension, YearTooEarly, YearTooLate, BadPeriod, PeriodTooLate, YearNotOfA, PeriodNotOfA, FeinPrefix, FeinRepeated, FeinNotOfE, BadFlag, NoDate, DateOutsideQuarter, DateNotFinal, DateMissing, IdentityPrefix, IdentityRepeated, BadNameCharacter, CountNotOfS, NoneUnderE, WagesNotOfS, FileCountNotOfS, FileCountNotOfE, FileWagesNotOfS, TooManyS, IdTableFull, EmployerListFull, FeinZero, NotFinal, BadQuarter, WalkEnded, StateUnfit, UnknownFormat, NotToBeWritten, NoneToTotal, SumTooLarge, SliceLength, BuildLength, ValueTooLong, DepositNotOfQuarter}
@@ -113,6 +113,29 @@ pub listed_number : (n : ℕ) → is_listed n ≡ true → number_of (reason_of 
 unfolding is_listed
 listed_number n e = eqb-true (number_of (reason_of n)) n e
 
+-- A number of the table has its reason; any other has none.
+pub listed_lem : {reason : Reason} {n : ℕ} → n ≡ number_of reason → ◌≡◌ {A = Result Reason NotListed} (Ok reason) (reason_listed n)
+listed_lem {reason} {n} e =
+    let listed : is_listed n ≡ true = ap is_listed e ∙ number_listed reason in
+    rw (listed, ← has_number_lem e)
+
+pub not_listed : (n : ℕ) → NoneHas n Unit reasons → ◌≡◌ {A = Result Reason NotListed} (Err (record {})) (reason_listed n)
+unfolding is_listed
+not_listed n facts =
+    let unfit = facts.0.0.0.0.0.0.0.0.1 in
+    rw (← no_number n facts, ne_eqb 72 n (λ e. unfit (sym e)))
+
+told_listed : (n : ℕ) (reason : Reason) (listed : Bool) → is_listed n ≡ listed
+    → ◌≡◌ {A = Result Reason NotListed} (if listed then Ok (reason_of n) else Err (record {})) (Ok reason) → (is_listed n ≡ true) × (number_of reason ≡ n)
+told_listed n reason true is e =
+    let same : reason_of n ≡ reason = cc in
+    (is, ap number_of (sym same) ∙ listed_number n is)
+told_listed n reason false is e = absurd (search rules)
+
+-- A reason that a number has is listed by that number.
+pub has_listed : (n : ℕ) (reason : Reason) → reason_listed n ≡ Ok reason → (is_listed n ≡ true) × (number_of reason ≡ n)
+has_listed n reason e = told_listed n reason (is_listed n) refl e
+
 -- 0 is "accepted": it is no reason's.
 pub never_zero : (reason : Reason) → number_of reason ≡ 0 → ⊥
 unfolding reason_of having_number
@@ -136,16 +159,34 @@ listed_has_reason k h = listed_number (get_or listed k 0) (at right 0 listed all
 not_broken : (column number : ℕ) → fine ≡ broken column number → ⊥
 not_broken column number e = let z : ◌≡◌ {A = ℕ} 0 1 = cc in omega arith
 
+abbrev pub broken_at : ℕ → Reason → Broken
+broken_at column reason = record { 0 = column; 1 = reason }
+
+pub same_broken : {A : Type 0} (c d : ℕ) (r s : Reason) → c ≡ d → r ≡ s → ◌≡◌ {A = Result A Broken} (Err (broken_at c r)) (Err (broken_at d s))
+same_broken c d r s column reason = rw (column, reason)
+
 -- No second answer of an edit fits a finding.
-pub same_finding : (a b : Edit) → finding_of a ≡ finding_of b → a ≡ b
-same_finding Passed Passed e = refl
-same_finding Passed (Broken column reason) e = absurd (not_broken column (number_of reason) e)
-same_finding (Broken column reason) Passed e = absurd (not_broken column (number_of reason) (sym e))
-same_finding (Broken c r) (Broken d s) e =
-    let column : c ≡ d = cc in
-    let number : number_of r ≡ number_of s = cc in
-    let reason = same_number r s number in
-    cc
+pub same_finding : (a b : Result ⊤ Broken) → finding_of a ≡ finding_of b → a ≡ b
+same_finding (Ok _) (Ok _) e = refl
+same_finding (Ok _) (Err it) e = absurd (not_broken it.0 (number_of it.1) e)
+same_finding (Err it) (Ok _) e = absurd (not_broken it.0 (number_of it.1) (sym e))
+same_finding (Err a) (Err b) e =
+    let column : a.0 ≡ b.0 = cc in
+    let number : number_of a.1 ≡ number_of b.1 = cc in
+    same_broken _ _ _ _ column (same_number a.1 b.1 number)
+
+no_value : (column number v : ℕ) → refused column number ≡ value v → ⊥
+no_value column number v e = let z : ◌≡◌ {A = ℕ} 0 1 = cc in omega arith
+
+-- No second answer of a reader fits what it reads.
+pub same_reading : (a b : Result ℕ Broken) → reading_of a ≡ reading_of b → a ≡ b
+same_reading (Ok v) (Ok w) e = let same : v ≡ w = cc in cc
+same_reading (Ok v) (Err it) e = absurd (no_value it.0 (number_of it.1) v (sym e))
+same_reading (Err it) (Ok v) e = absurd (no_value it.0 (number_of it.1) v e)
+same_reading (Err a) (Err b) e =
+    let column : a.0 ≡ b.0 = cc in
+    let number : number_of a.1 ≡ number_of b.1 = cc in
+    same_broken _ _ _ _ column (same_number a.1 b.1 number)
 
 abbrev refusal : ℕ → ℕ → Reason → Refusal
 refusal line column reason = record { line = line; column = column; reason = reason }

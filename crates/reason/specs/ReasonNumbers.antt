@@ -1,8 +1,8 @@
 -- Definitions: the paper's number of each reason, the numbers of its table, and what an edit finds in the paper's numbers.
-use Rattle.std.specs.Prelude.{ℕ, zero, suc, Bool, List, [], ◌∷◌, ◌++◌, eqb, if◌then◌else◌}
-use Rattle.laws.specs.Finding.{Finding, fine, broken}
-use Rattle.reason.specs.declared.Edit.{Edit}
-use Rattle.reason.specs.declared.Edit.TheVariants.{Passed, Broken}
+use Rattle.std.specs.Prelude.{ℕ, zero, suc, Bool, List, [], ◌∷◌, ◌++◌, eqb, if◌then◌else◌, Result, Ok, Err, ⊤}
+use Rattle.laws.specs.Finding.{Finding, fine, broken, Reading, value, refused}
+use Rattle.reason.specs.declared.Broken.{Broken}
+use Rattle.reason.specs.declared.NotListed.{NotListed}
 use Rattle.reason.specs.declared.Reason.{Reason}
 use Rattle.reason.specs.declared.Refusal.{Refusal}
 use Rattle.reason.specs.declared.Reason.TheVariants.{LineLength, NoLineEnd, BadCharacter, UnknownLetter, EndsBeforeA, EndsAfterA, EndsWithEOpen, EndsWithoutF, BeforeA, SecondA, SWithoutE, TWithoutE, FWithoutE, EWhileEOpen, SUnderZeroE, FWhileEOpen, SecondT, SecondF, BehindF, NotDigit, NotBlank, TextMissing, TextIndented, NotEntityCode, UnknownState, BadZip, BadZipExtension, YearTooEarly, YearTooLate, BadPeriod, PeriodTooLate, YearNotOfA, PeriodNotOfA, FeinPrefix, FeinRepeated, FeinNotOfE, BadFlag, NoDate, DateOutsideQuarter, DateNotFinal, DateMissing, IdentityPrefix, IdentityRepeated, BadNameCharacter, CountNotOfS, NoneUnderE, WagesNotOfS, FileCountNotOfS, FileCountNotOfE, FileWagesNotOfS, TooManyS, IdTableFull, EmployerListFull, FeinZero, NotFinal, BadQuarter, WalkEnded, StateUnfit, UnknownFormat, NotToBeWritten, NoneToTotal, SumTooLarge, SliceLength, BuildLength, ValueTooLong, DepositNotOfQuarter}
@@ -99,10 +99,19 @@ reason_of n = having_number n reasons
 unfoldable pub is_listed : ℕ → Bool
 is_listed n = eqb (number_of (reason_of n)) n
 
+-- The reason of a number of the table; of no other number is there one.
+abbrev pub reason_listed : ℕ → Result Reason NotListed
+reason_listed n = if is_listed n then Ok (reason_of n) else Err (record {})
+
 -- The column, and the number of the reason.
-abbrev pub finding_of : Edit → Finding
-finding_of Passed = fine
-finding_of (Broken column reason) = broken column (number_of reason)
+abbrev pub finding_of : Result ⊤ Broken → Finding
+finding_of (Ok _) = fine
+finding_of (Err it) = broken it.0 (number_of it.1)
+
+-- The same of what is read: its number, or the column and the number of the reason.
+abbrev pub reading_of : Result ℕ Broken → Reading
+reading_of (Ok v) = value v
+reading_of (Err it) = refused it.0 (number_of it.1)
 
 -- What a call answers, in the paper's numbers: 0 is "accepted", with line 0 and column 0.
 pub record Notice : Type 0 where

@@ -1,6 +1,6 @@
 // The formats: the one place where code asks which format a line is of. Of a number that names none
 // every line is one of no record.
-#![tactic(auto)]
+#![tactic(auto, unfolding(crate::specs::Judge::judge))]
 
 ghost use Rattle.std.specs.Prelude.{◌≡◌, ◌&&◌, leb};
 ghost use Rattle.reason.specs.ReasonNumbers.{finding_of};
@@ -14,9 +14,10 @@ ghost use Rattle.record.specs.Judge.{judge as judge_of};
 use calendar::Quarter;
 use edits::format::Format;
 use edits::{Context, Open, Opening, Phase, Seen, Totals};
-use lines::Cut;
-use reason::{Edit, Reason};
-use shape::{Asking, Said, Verdict};
+use pfml::Pfml;
+use reason::{Broken, Edit, Reason};
+use shape::{Said, Verdict, layout};
+use wham::Wham;
 use wham_fields::Edition;
 
 // How many characters a line has.
@@ -75,21 +76,11 @@ pub fn unfit_more(
 pub fn quarter_unfit(phase: Phase, held: Opening, filed: Quarter) -> bool
     ensures { result ≡ (shape_of held.format).quarter_unfit phase held filed }
 {
-    let format = held.format;
-    match format {
+    match held.format {
         Format::Pfml => pfml::fitness::quarter_unfit(phase, held, filed),
         Format::Wham2024 => wham::fitness::quarter_unfit(phase, held, filed),
         Format::Unknown => false,
     }
-}
-
-fn is_of_line(number: u8) -> bool
-    ensures { result ≡ (leb 1 number && leb number 8) }
-{
-    if number < 1 {
-        return false;
-    }
-    number <= 8
 }
 
 // Whether a number is one that the refusal of an edit leaves in the state.
@@ -99,18 +90,19 @@ pub fn is_left(format: Format, number: u8) -> bool
     match format {
         Format::Pfml => pfml::fitness::is_left(number),
         Format::Wham2024 => wham::fitness::is_left(Edition::Of2024, number),
-        Format::Unknown => is_of_line(number),
+        Format::Unknown => matches!(number, 1..=8),
     }
 }
 
 // All edits of a line of the right length.
+#[tactic(auto, using(edits::specs::EditLaws::first_one))]
 fn text_edit(format: Format, here: Context, seen: Seen, line: &[u8]) -> Edit
     ensures { finding_of result ≡ first_broken ((shape_of format).edits here seen (capitals line.now)) }
 {
     match format {
-        Format::Pfml => pfml::text_edit(here, seen, line),
-        Format::Wham2024 => wham::text_edit(Edition::Of2024, here, seen, line),
-        Format::Unknown => Edit::Broken(1, Reason::UnknownLetter),
+        Format::Pfml => layout::text_edit(Pfml, here, seen, line),
+        Format::Wham2024 => layout::text_edit(Wham(Edition::Of2024), here, seen, line),
+        Format::Unknown => Err(Broken(1, Reason::UnknownLetter)),
     }
 }
 
@@ -119,31 +111,31 @@ pub fn said_on(format: Format, line: &[u8]) -> Said
     ensures { result ≡ (shape_of format).says (capitals line.now) }
 {
     match format {
-        Format::Pfml => pfml::said_on(line),
-        Format::Wham2024 => wham::said_on(line),
+        Format::Pfml => layout::said_on(Pfml, line),
+        Format::Wham2024 => layout::said_on(Wham(Edition::Of2024), line),
         Format::Unknown => Said::OfNone,
     }
 }
 
 // What the record on a line asks of the employer list.
-pub fn fein_asked(format: Format, line: &[u8]) -> Asking
+pub fn fein_asked(format: Format, line: &[u8]) -> Option<u64>
     ensures { result ≡ fein_asked ((shape_of format).says (capitals line.now)) }
 {
     match format {
-        Format::Pfml => pfml::fein_asked(line),
-        Format::Wham2024 => wham::fein_asked(line),
-        Format::Unknown => shape::asks_nothing(),
+        Format::Pfml => layout::fein_asked(Pfml, line),
+        Format::Wham2024 => layout::fein_asked(Wham(Edition::Of2024), line),
+        Format::Unknown => None,
     }
 }
 
 // What the record on a line asks of the id table.
-pub fn id_asked(format: Format, line: &[u8]) -> Asking
+pub fn id_asked(format: Format, line: &[u8]) -> Option<u64>
     ensures { result ≡ id_asked ((shape_of format).says (capitals line.now)) }
 {
     match format {
-        Format::Pfml => pfml::id_asked(line),
-        Format::Wham2024 => wham::id_asked(line),
-        Format::Unknown => shape::asks_nothing(),
+        Format::Pfml => layout::id_asked(Pfml, line),
+        Format::Wham2024 => layout::id_asked(Wham(Edition::Of2024), line),
+        Format::Unknown => None,
     }
 }
 
@@ -151,25 +143,16 @@ pub fn id_asked(format: Format, line: &[u8]) -> Asking
 fn judge_text(format: Format, here: Context, seen: Seen, line: &[u8], taken: usize) -> Verdict
     ensures { judged_by result ≡ text_verdict_by (shape_of format) here seen (capitals line.now) taken }
 {
-    let e = text_edit(format, here, seen, line);
-    match e {
-        Edit::Broken(column, reason) => Verdict::Refused(column, reason),
-        Edit::Passed => Verdict::Passed(taken, said_on(format, line)),
-    }
+    text_edit(format, here, seen, line)?;
+    Ok((taken, said_on(format, line)))
 }
 
 // The verdict on the first line of the bytes.
 pub fn judge(here: Context, seen: Seen, bytes: &[u8]) -> Verdict
     ensures { judged_by result ≡ judge_of here seen (first_line bytes.now) }
 {
-    let opening = here.held;
-    let format = opening.format;
+    let format = here.held.format;
     let length = length_of(format);
-    let cut = lines::cut_line(bytes, length);
-    let from: usize = 0;
-    let to = length as usize;
-    match cut {
-        Cut::Refused(column, reason) => Verdict::Refused(column, reason),
-        Cut::Taken(taken) => judge_text(format, here, seen, &bytes[from..to], taken),
-    }
+    let taken = lines::cut_line(bytes, length)?;
+    judge_text(format, here, seen, &bytes[..length as usize], taken)
 }

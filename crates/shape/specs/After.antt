@@ -1,6 +1,6 @@
 -- Definitions: what one record makes of each thing that the lines after it are judged by.
 -- The meaning of a file takes these steps record by record, and so does the walk.
-use Rattle.std.specs.Prelude.{ℕ, ◌+◌, false, List, [], ◌∷◌, ◌++◌, eqb, if◌then◌else◌}
+use Rattle.std.specs.Prelude.{ℕ, ◌+◌, false, List, [], ◌∷◌, ◌++◌, eqb, if◌then◌else◌, unwrap_or}
 use Rattle.calendar.specs.declared.Quarter.{Quarter}
 use Rattle.edits.specs.Counted.{open_with, totals_with}
 use Rattle.edits.specs.declared.Open.{Open}
@@ -27,12 +27,9 @@ phase_after OfNone phase = phase
 abbrev pub no_quarter : Quarter
 no_quarter = record { year = 0; month = 0 }
 
-abbrev pub quarter_of : EmployerOn → Quarter
-quarter_of employer = record { year = employer.year; month = employer.month }
-
 abbrev pub filed_after : Said → Quarter → Quarter
 filed_after (OfA quarter) filed = quarter
-filed_after (OfE employer) filed = if employer.files then quarter_of employer else filed
+filed_after (OfE employer) filed = unwrap_or employer.files filed
 filed_after (OfS employee) filed = filed
 filed_after OfT filed = filed
 filed_after OfF filed = filed

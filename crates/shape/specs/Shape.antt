@@ -1,5 +1,5 @@
 -- Definitions: a format as the machine knows it, and the verdict on a line by it.
-use Rattle.std.specs.Prelude.{ℕ, Bool, true, false, ◌&&◌, List, ◌∷◌, if◌then◌else◌}
+use Rattle.std.specs.Prelude.{ℕ, Bool, false, List, ◌∷◌, if◌then◌else◌, Option, Some, None, Result, Ok, Err}
 use Rattle.laws.specs.Finding.{Finding, fine, broken}
 use Rattle.lines.specs.Cutting.{beyond, length_test, end_test}
 use Rattle.lines.specs.Lines.{Line, size_of}
@@ -13,11 +13,9 @@ use Rattle.edits.specs.declared.Opening.{Opening}
 use Rattle.edits.specs.declared.Phase.{Phase}
 use Rattle.edits.specs.declared.Seen.{Seen}
 use Rattle.edits.specs.declared.Totals.{Totals}
-use Rattle.shape.specs.declared.Asking.{Asking}
 use Rattle.shape.specs.declared.Said.{Said}
 use Rattle.shape.specs.declared.Said.TheVariants.{OfA, OfE, OfS, OfT, OfF, OfNote, OfNone}
-use Rattle.shape.specs.declared.Verdict.{Verdict}
-use Rattle.shape.specs.declared.Verdict.TheVariants.{Refused, Passed}
+use Rattle.reason.specs.declared.Broken.{Broken}
 
 -- All that the machine knows of a format.
 pub record Shape : Type 0 where
@@ -54,37 +52,32 @@ verdict_by fine taken said = passed taken said
 verdict_by (broken column number) taken said = refusal column number
 
 -- What the code answers, in the paper's numbers.
-abbrev pub judged_by : Verdict → Judged
-judged_by (Refused column reason) = refusal column (number_of reason)
-judged_by (Passed taken said) = passed taken said
+abbrev pub judged_by : Result (ℕ × Said) Broken → Judged
+judged_by (Ok (taken, said)) = passed taken said
+judged_by (Err it) = refusal it.0 (number_of it.1)
 
--- What a record asks: an E, in a format where a FEIN may stand on one alone, whether its FEIN stands on an earlier E, an S whether its identity number stands under the open E; other records ask nothing.
-abbrev pub asks_nothing : Asking
-asks_nothing = record { asks = false; number = 0 }
+-- What a record asks of a lent table, whether a number stands in it: an E, in a format where a FEIN may stand on one alone, whether its FEIN stands on an earlier E, an S whether its identity number stands under the open E; other records ask nothing.
+abbrev pub fein_asked : Said → Option ℕ
+fein_asked (OfA quarter) = None
+fein_asked (OfE employer) = if employer.once then Some employer.fein else None
+fein_asked (OfS employee) = None
+fein_asked OfT = None
+fein_asked OfF = None
+fein_asked (OfNote note) = None
+fein_asked OfNone = None
 
-abbrev pub asks_for : ℕ → Asking
-asks_for number = record { asks = true; number = number }
+abbrev pub id_asked : Said → Option ℕ
+id_asked (OfA quarter) = None
+id_asked (OfE employer) = None
+id_asked (OfS employee) = Some employee.id
+id_asked OfT = None
+id_asked OfF = None
+id_asked (OfNote note) = None
+id_asked OfNone = None
 
-abbrev pub fein_asked : Said → Asking
-fein_asked (OfA quarter) = asks_nothing
-fein_asked (OfE employer) = if employer.once then asks_for employer.fein else asks_nothing
-fein_asked (OfS employee) = asks_nothing
-fein_asked OfT = asks_nothing
-fein_asked OfF = asks_nothing
-fein_asked (OfNote note) = asks_nothing
-fein_asked OfNone = asks_nothing
-
-abbrev pub id_asked : Said → Asking
-id_asked (OfA quarter) = asks_nothing
-id_asked (OfE employer) = asks_nothing
-id_asked (OfS employee) = asks_for employee.id
-id_asked OfT = asks_nothing
-id_asked OfF = asks_nothing
-id_asked (OfNote note) = asks_nothing
-id_asked OfNone = asks_nothing
-
-abbrev answered : Asking → (ℕ → Bool) → Bool
-answered asking among = asking.asks && among asking.number
+abbrev pub answered : Option ℕ → (ℕ → Bool) → Bool
+answered None among = false
+answered (Some number) among = among number
 
 -- What was seen before: `earlier` says of a FEIN whether it stands on an earlier E, `under` of an identity number whether it stands under the open E.
 abbrev pub seen_of : (ℕ → Bool) → (ℕ → Bool) → Said → Seen

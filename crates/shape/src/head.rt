@@ -8,21 +8,18 @@ ghost use Rattle.shape.specs.Limits.{most_employees};
 
 use chars::columns;
 use chars::columns::Allowed;
-use reason::{Edit, Reason};
+use reason::{Broken, Edit, Reason};
 
 // The first broken edit of a record before its fields: it has so many columns, its letter is known
 // or not, and `placed` is what its place and its count find.
 pub fn head_edit(length: u16, known: bool, placed: Edit, line: &[u8]) -> Edit
     ensures { finding_of result ≡ head_test length known (finding_of placed) (capitals line.now) }
 {
-    let e = columns::every_column(Allowed::Permitted, line, 1, length);
-    if let Edit::Broken(_, _) = e {
-        return e;
+    columns::every_column(Allowed::Permitted, line, 1, length)?;
+    if !known {
+        return Err(Broken(1, Reason::UnknownLetter));
     }
-    if known {
-        return placed;
-    }
-    Edit::Broken(1, Reason::UnknownLetter)
+    placed
 }
 
 // No record more where the file has 100,000 of its letter.
@@ -30,7 +27,7 @@ pub fn one_more(count: u64) -> Edit
     ensures { finding_of result ≡ unless (not (leb most_employees count)) 1 61 }
 {
     if count < crate::MOST_EMPLOYEES {
-        return Edit::Passed;
+        return Ok(());
     }
-    Edit::Broken(1, Reason::TooManyS)
+    Err(Broken(1, Reason::TooManyS))
 }

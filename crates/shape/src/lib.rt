@@ -3,24 +3,24 @@
 #![tactic(auto)]
 
 pub mod head;
+pub mod layout;
 
 ghost use Rattle.std.specs.Prelude.{◌≡◌};
 ghost use Rattle.reason.specs.ReasonNumbers.{finding_of};
 ghost use Rattle.edits.specs.Edit.{first_broken};
 ghost use Rattle.shape.specs.EndOfInput.{end_edits};
-ghost use Rattle.shape.specs.Shape.{asks_nothing};
 
 use calendar::Quarter;
 use edits::Phase;
-use reason::{Edit, Reason};
+use reason::{Broken, Edit, Reason};
 
 // The most S records of a file.
 pub const MOST_EMPLOYEES: u64 = 100000;
 
 // An E record: its FEIN, whether that may stand on no other E, whether S records follow; what its
 // entry takes over: the flags of an amended and of a final return, and the cease date; the account
-// number as two numbers to the base 256; and whether it tells the quarter that the file reports,
-// and that quarter. What a format has not is 0 or false.
+// number as two numbers to the base 256; and the quarter that the file reports, if it tells it. What
+// a format has not is 0 or false.
 #[derive(Clone, Copy)]
 pub struct EmployerOn {
     pub fein: u64,
@@ -31,9 +31,7 @@ pub struct EmployerOn {
     pub cease_date: u64,
     pub account_head: u64,
     pub account_tail: u64,
-    pub files: bool,
-    pub year: u64,
-    pub month: u64,
+    pub files: Option<Quarter>,
 }
 
 // An S record: the identity number, the wages in cents, and a second amount in cents, 0 in a format
@@ -53,7 +51,8 @@ pub enum Note {
     Deposit,
 }
 
-// What a record says to the walk; a line of no record says nothing.
+// What a record says to the walk; a line of no record says nothing. That is a variant and no `None`,
+// since what a line leaves (`goes_on`) has an answer for it as for the others.
 #[derive(Clone, Copy)]
 pub enum Said {
     OfA(Quarter),
@@ -65,40 +64,20 @@ pub enum Said {
     OfNone,
 }
 
-// What a record asks of a lent table: whether this number stands in it, or nothing.
-#[derive(Clone, Copy)]
-pub struct Asking {
-    pub asks: bool,
-    pub number: u64,
-}
-
-// A refusal, with its column; or the bytes that the line and its end take, and what its record
-// says.
-#[derive(Clone, Copy)]
-pub enum Verdict {
-    Refused(u16, Reason),
-    Passed(usize, Said),
-}
-
-// A record that asks nothing.
-pub fn asks_nothing() -> Asking
-    ensures { result ≡ asks_nothing }
-{
-    Asking {
-        asks: false,
-        number: 0,
-    }
-}
+// The verdict on a line: what is broken; or the bytes that the line and its end take, and what its
+// record says.
+pub type Verdict = Result<(usize, Said), Broken>;
 
 // What the end of the input finds: only after F may it come.
+#[tactic(auto, using(crate::specs::EndOfInputLaws::end_parts))]
 pub fn end_edit(phase: Phase) -> Edit
     ensures { finding_of result ≡ first_broken (end_edits phase) }
 {
     match phase {
-        Phase::BeforeA => Edit::Broken(1, Reason::EndsBeforeA),
-        Phase::AfterA => Edit::Broken(1, Reason::EndsAfterA),
-        Phase::EOpen => Edit::Broken(1, Reason::EndsWithEOpen),
-        Phase::AfterT => Edit::Broken(1, Reason::EndsWithoutF),
-        Phase::AfterF => Edit::Passed,
+        Phase::BeforeA => Err(Broken(1, Reason::EndsBeforeA)),
+        Phase::AfterA => Err(Broken(1, Reason::EndsAfterA)),
+        Phase::EOpen => Err(Broken(1, Reason::EndsWithEOpen)),
+        Phase::AfterT => Err(Broken(1, Reason::EndsWithoutF)),
+        Phase::AfterF => Ok(()),
     }
 }

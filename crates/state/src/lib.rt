@@ -15,7 +15,7 @@ use reason::Refusal;
 
 // Where a walk stands: among the records of the file; at its accepted end; or refused, with the
 // place and the reason.
-#[derive(Clone, Copy)]
+#[derive(Clone, Copy, PartialEq, Eq)]
 pub enum Stage {
     Reading(Phase),
     Accepted,
@@ -69,31 +69,7 @@ pub fn no_opening() -> Opening
 pub fn none_open() -> Open
     ensures { result ≡ none_open }
 {
-    Open {
-        fein: 0,
-        follow: false,
-        count: 0,
-        sum: 0,
-        second: 0,
-        others: 0,
-        nearest: 0,
-        noted: false,
-        account_head: 0,
-        account_tail: 0,
-    }
-}
-
-fn no_totals() -> Totals
-    ensures { result ≡ no_totals }
-{
-    Totals {
-        count: 0,
-        employers: 0,
-        sum: 0,
-        second: 0,
-        others: 0,
-        notes: 0,
-    }
+    Open::default()
 }
 
 // The state of a walk that has read nothing.
@@ -106,7 +82,7 @@ pub fn opened(held: Opening) -> State
         held,
         filed: no_quarter(),
         open: none_open(),
-        all: no_totals(),
+        all: Totals::default(),
         used: 0,
     }
 }
@@ -115,17 +91,12 @@ pub fn opened(held: Opening) -> State
 pub fn refused(format: Format, refusal: Refusal) -> State
     ensures { walk_of result ≡ refused_walk format (notice_of refusal) }
 {
+    let held = Opening {
+        format,
+        ..no_opening()
+    };
     State {
         stage: Stage::Refused(refusal),
-        lines: 0,
-        held: Opening {
-            format,
-            year: 0,
-            month: 0,
-        },
-        filed: no_quarter(),
-        open: none_open(),
-        all: no_totals(),
-        used: 0,
+        ..opened(held)
     }
 }

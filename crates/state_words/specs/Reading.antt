@@ -1,6 +1,5 @@
 -- Laws: what words that are read tell, and when they tell nothing.
-use Rattle.std.specs.Prelude.{ℕ, ◌≤◌, ◌<◌, Bool, true, false, List, ◌≡◌, refl, ltb, length, if◌then◌else◌}
-use Rattle.std.proofs.Math.Option.{Option, none, some}
+use Rattle.std.specs.Prelude.{ℕ, ◌≤◌, ◌<◌, Bool, true, false, List, ◌≡◌, refl, ltb, length, if◌then◌else◌, Option, None, Some}
 use Rattle.std.proofs.Common.{arith, lt-ltb, le-ltb}
 use Rattle.std.proofs.Math.ListN.{get_or-eq_default}
 use Rattle.reason.specs.ReasonNumbers.{number_of, reason_of, is_listed, notice}
@@ -22,20 +21,20 @@ either false = refl
 module _ (words : List ℕ) where
   -- ---- where it stands
   pub listed_told : is_listed (word words 1) ≡ true
-      → some (refused (notice (number_of (reason_of (word words 1))) (line_in (word words 2)) (column_in (word words 3)))) ≡ refusal_in words
+      → Some (refused (notice (number_of (reason_of (word words 1))) (line_in (word words 2)) (column_in (word words 3)))) ≡ refusal_in words
   listed_told e = rw (listed_number (word words 1) e, e)
 
-  pub unlisted_told : is_listed (word words 1) ≡ false → refusal_in words ≡ none
+  pub unlisted_told : is_listed (word words 1) ≡ false → refusal_in words ≡ None
   unlisted_told e = rw e
 
-  pub nowhere_told : 6 < word words 0 → standing_in words ≡ none
-  nowhere_told h = get_or-eq_default (standings words) none h
+  pub nowhere_told : 6 < word words 0 → standing_in words ≡ None
+  nowhere_told h = get_or-eq_default (standings words) None h
 
   pub none_of_seven : (word words 0 ≡ 0 → ⊥) → (word words 0 ≡ 1 → ⊥) → (word words 0 ≡ 2 → ⊥) → (word words 0 ≡ 3 → ⊥) → (word words 0 ≡ 4 → ⊥)
-      → (word words 0 ≡ 5 → ⊥) → (word words 0 ≡ 6 → ⊥) → standing_in words ≡ none
+      → (word words 0 ≡ 5 → ⊥) → (word words 0 ≡ 6 → ⊥) → standing_in words ≡ None
   none_of_seven a b c d e f g = nowhere_told (past_six (word words 0) (past_three (word words 0) a b c d) e f g)
 
-  pub unnamed_told : word words 0 ≡ 6 → is_listed (word words 1) ≡ false → standing_in words ≡ none
+  pub unnamed_told : word words 0 ≡ 6 → is_listed (word words 1) ≡ false → standing_in words ≡ None
   unnamed_told e f = rw (e, f)
 
   -- ---- the walk
@@ -43,7 +42,7 @@ module _ (words : List ℕ) where
   unfolding walk_in
   few_told h = rw (lt-ltb (length words) word_count h)
 
-  pub none_told : standing_in words ≡ none → walk_in words ≡ unfit_walk
+  pub none_told : standing_in words ≡ None → walk_in words ≡ unfit_walk
   unfolding walk_in
   none_told e = rw e (either (ltb (length words) word_count))
 

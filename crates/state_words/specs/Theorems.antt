@@ -1,8 +1,7 @@
 -- Laws: a state put into words is read back as it was; words that tell no walk are unfit for every call.
-use Rattle.std.specs.Prelude.{ℕ, ◌≤◌, min, Bool, true, false, List, ◌++◌, ◌≡◌, refl, length, drop}
+use Rattle.std.specs.Prelude.{ℕ, ◌≤◌, min, Bool, true, false, List, ◌++◌, ◌≡◌, refl, length, drop, Some}
 use Rattle.std.proofs.Math.Bool.{not-eq-not}
 use Rattle.std.proofs.Common.{append_assoc, ap, ◌∙◌, arith}
-use Rattle.std.proofs.Math.Option.{some}
 use Rattle.std.proofs.lemmas.Bool.{not-false}
 use Rattle.reason.specs.Once.{number_listed}
 use Rattle.tables.specs.Room.{Room}
@@ -32,7 +31,7 @@ format_back Pfml = refl
 format_back Wham2024 = refl
 format_back NoFormat = refl
 
-standing_back : (stage : Stage) (rest : List ℕ) → HeldStanding (standing_of stage) → standing_in (standing_words (standing_of stage) ++ rest) ≡ some (standing_of stage)
+standing_back : (stage : Stage) (rest : List ℕ) → HeldStanding (standing_of stage) → standing_in (standing_words (standing_of stage) ++ rest) ≡ Some (standing_of stage)
 standing_back (Reading BeforeA) rest held = refl
 standing_back (Reading AfterA) rest held = refl
 standing_back (Reading EOpen) rest held = refl
@@ -51,7 +50,7 @@ module _ (st : State) (words : List ℕ) (held : Held (walk_of st)) (room : word
   abbrev rest : List ℕ
   rest = number_words (walk_of st) ++ drop word_count words
 
-  numbers_back : walk_told (first_four first ++ rest) (some (standing_of st.stage)) ≡ walk_of st
+  numbers_back : walk_told (first_four first ++ rest) (Some (standing_of st.stage)) ≡ walk_of st
   numbers_back =
       let lines : min st.lines most_line ≡ st.lines = omega arith in
       rw (lines, flag_back st.open.follow, flag_back st.open.noted, format_back st.held.format)
@@ -62,7 +61,7 @@ module _ (st : State) (words : List ℕ) (held : Held (walk_of st)) (room : word
       let all : word_count ≤ length (first ++ rest) = rw (four (standing_of st.stage)) (omega arith) in
       rw (enough (walk_of st) words room, append_assoc first (number_words (walk_of st)) (drop word_count words))
       (all_told (first ++ rest) _ all (standing_back st.stage rest held.standing)
-      ∙ ap (λ (f : List ℕ). walk_told (f ++ rest) (some (standing_of st.stage))) (four (standing_of st.stage))
+      ∙ ap (λ (f : List ℕ). walk_told (f ++ rest) (Some (standing_of st.stage))) (four (standing_of st.stage))
       ∙ numbers_back)
 
 -- The state read is the state itself.

@@ -1,6 +1,5 @@
 -- Definitions: the state of a walk as 27 words of 64 bits that a caller lends, and the walk that any words tell.
-use Rattle.std.specs.Prelude.{ℕ, ◌≤◌, min, Bool, not, List, [], ◌∷◌, ◌++◌, ltb, eqb, length, get_or, drop, if◌then◌else◌}
-use Rattle.std.proofs.Math.Option.{Option, none, some}
+use Rattle.std.specs.Prelude.{ℕ, ◌≤◌, min, Bool, not, List, [], ◌∷◌, ◌++◌, ltb, eqb, length, get_or, drop, if◌then◌else◌, Option, None, Some}
 use Rattle.reason.specs.ReasonNumbers.{is_listed, notice}
 use Rattle.edits.specs.Formats.{format_of, format_number}
 use Rattle.edits.specs.declared.Open.{Open}
@@ -8,8 +7,7 @@ use Rattle.edits.specs.declared.Phase.TheVariants.{BeforeA, AfterA, EOpen, After
 use Rattle.edits.specs.declared.Totals.{Totals}
 use Rattle.edits.specs.declared.format.Format.TheVariants.{Unknown as NoFormat}
 use Rattle.state.specs.Walks.{Standing, reading, accepted, refused, Walk, standing_of, refused_walk}
-use Rattle.state_words.specs.declared.Told.{Told}
-use Rattle.state_words.specs.declared.Told.TheVariants.{Known, Unknown}
+use Rattle.state.specs.declared.Stage.{Stage}
 
 abbrev pub word_count : ℕ
 word_count = 27
@@ -85,18 +83,18 @@ column_in n = min n most_column
 abbrev pub refusal_in : List ℕ → Option Standing
 refusal_in words =
     if is_listed (word words 1)
-    then some (refused (notice (word words 1) (line_in (word words 2)) (column_in (word words 3))))
-    else none
+    then Some (refused (notice (word words 1) (line_in (word words 2)) (column_in (word words 3))))
+    else None
 
 -- Where it stands: 0 before A, 1 after A, 2 E open, 3 after T, 4 after F, 5 accepted, 6 refused.
 abbrev pub standings : List ℕ → List (Option Standing)
 standings words =
-    some (reading BeforeA) ∷ some (reading AfterA) ∷ some (reading EOpen) ∷ some (reading AfterT) ∷ some (reading AfterF)
-    ∷ some accepted ∷ refusal_in words ∷ []
+    Some (reading BeforeA) ∷ Some (reading AfterA) ∷ Some (reading EOpen) ∷ Some (reading AfterT) ∷ Some (reading AfterF)
+    ∷ Some accepted ∷ refusal_in words ∷ []
 
 -- Another number tells nothing.
 abbrev pub standing_in : List ℕ → Option Standing
-standing_in words = get_or (standings words) (word words 0) none
+standing_in words = get_or (standings words) (word words 0) None
 
 -- Where nothing is told: a refused walk with 72, which no refusal leaves in the state.
 abbrev pub unfit_walk : Walk
@@ -134,8 +132,8 @@ totals_told words =
     }
 
 abbrev pub walk_told : List ℕ → Option Standing → Walk
-walk_told words none = unfit_walk
-walk_told words (some standing) =
+walk_told words None = unfit_walk
+walk_told words (Some standing) =
     record {
       standing = standing;
       lines = line_in (word words 4);
@@ -150,6 +148,6 @@ unfoldable pub walk_in : List ℕ → Walk
 walk_in words = if ltb (length words) word_count then unfit_walk else walk_told words (standing_in words)
 
 -- What the code reads of where a walk stands, in the paper's numbers.
-abbrev pub told_of : Told → Option Standing
-told_of (Known stage) = some (standing_of stage)
-told_of Unknown = none
+abbrev pub told_of : Option Stage → Option Standing
+told_of (Some stage) = Some (standing_of stage)
+told_of None = None

@@ -1,46 +1,35 @@
 // The state of a walk as words that a caller lends, for callers in a language that has no `State`.
 #![tactic(auto)]
 
-ghost use Rattle.std.specs.Prelude.{◌≤◌, min, ◌≡◌, length};
-ghost use Rattle.std.proofs.Math.Option.{some};
+ghost use Rattle.std.specs.Prelude.{◌≤◌, min, ◌≡◌, length, Some};
 ghost use Rattle.reason.specs.ReasonNumbers.{notice_of};
 ghost use Rattle.state.specs.Walks.{reading, refused, standing_of, walk_of};
 ghost use Rattle.state_words.specs.Words.{word_count, standing_words, flag_word, words_of, put_words, HeldStanding, Held, line_in, column_in, refusal_in, standing_in, unfit_walk, open_told, totals_told, walk_told, walk_in, told_of};
 
 use calendar::Quarter;
 use edits::format::Format;
-use edits::{Open, Opening, Phase, Totals, format};
+use edits::{Open, Opening, Phase, Totals};
 use reason::{Reason, Refusal};
 use state::{Stage, State};
 
 // How many words a state is.
 pub const WORDS: usize = 27;
 
-// What the first words tell of where a walk stands.
-#[derive(Clone, Copy)]
-enum Told {
-    Known(Stage),
-    Unknown,
-}
-
 fn phase_words(phase: Phase) -> [u64; 4]
     ensures { result ≡ standing_words (reading phase) }
 {
-    match phase {
-        Phase::BeforeA => [0, 0, 0, 0],
-        Phase::AfterA => [1, 0, 0, 0],
-        Phase::EOpen => [2, 0, 0, 0],
-        Phase::AfterT => [3, 0, 0, 0],
-        Phase::AfterF => [4, 0, 0, 0],
-    }
+    [phase as u64, 0, 0, 0]
 }
 
 fn refusal_words(refusal: Refusal) -> [u64; 4]
     ensures { (result ≡ standing_words (refused (notice_of refusal))) × HeldStanding (refused (notice_of refusal)) }
 {
-    let reason = refusal.reason;
-    let number = reason::number_of(reason) as u64;
-    [6, number, refusal.line as u64, refusal.column as u64]
+    [
+        6,
+        u64::from(u8::from(refusal.reason)),
+        u64::from(refusal.line),
+        u64::from(refusal.column),
+    ]
 }
 
 fn stage_words(stage: Stage) -> [u64; 4]
@@ -53,21 +42,18 @@ fn stage_words(stage: Stage) -> [u64; 4]
     }
 }
 
+// A flag is 1 or 0.
 fn flag_word(flag: bool) -> u64
     ensures { result ≡ flag_word flag }
 {
-    if flag { 1 } else { 0 }
+    u64::from(flag)
 }
 
 // The words of a state.
 fn words_of(st: State) -> [u64; WORDS]
     ensures { (result ≡ words_of (walk_of st)) × Held (walk_of st) }
 {
-    let stage = st.stage;
-    let first = stage_words(stage);
-    let held = st.held;
-    let format = held.format;
-    let filed = st.filed;
+    let first = stage_words(st.stage);
     let open = st.open;
     let all = st.all;
     [
@@ -75,11 +61,11 @@ fn words_of(st: State) -> [u64; WORDS]
         first[1],
         first[2],
         first[3],
-        st.lines as u64,
-        held.year,
-        held.month,
-        filed.year,
-        filed.month,
+        u64::from(st.lines),
+        st.held.year,
+        st.held.month,
+        st.filed.year,
+        st.filed.month,
         open.fein,
         flag_word(open.follow),
         open.count,
@@ -88,7 +74,7 @@ fn words_of(st: State) -> [u64; WORDS]
         all.employers,
         all.sum,
         st.used as u64,
-        format::number_of(format),
+        u64::from(st.held.format),
         open.second,
         open.others,
         open.nearest,
@@ -110,54 +96,47 @@ pub fn put_words(st: State, words: &mut [u64])
     if words.len() < WORDS {
         return;
     }
-    let from = words_of(st);
-    let mut i = 0;
-    while i < WORDS {
-        words[i] = from[i];
-        i += 1;
-    }
+    words[..WORDS].copy_from_slice(&words_of(st));
 }
 
 fn line_in(n: u64) -> u32
     ensures { result ≡ line_in n }
 {
-    number::least(n, 4294967295) as u32
+    n.min(u64::from(u32::MAX)) as u32
 }
 
 fn column_in(n: u64) -> u16
     ensures { result ≡ column_in n }
 {
-    number::least(n, 65535) as u16
+    n.min(u64::from(u16::MAX)) as u16
 }
 
 // A refusal whose number is none of the paper's tells nothing.
-fn refusal_in(words: &[u64]) -> Told
+fn refusal_in(words: &[u64]) -> Option<Stage>
     requires { word_count ≤ length words.now }
     ensures { told_of result ≡ refusal_in words.now }
 {
-    if reason::is_listed(words[1]) {
-        return Told::Known(Stage::Refused(Refusal {
-            line: line_in(words[2]),
-            column: column_in(words[3]),
-            reason: reason::reason_of(words[1]),
-        }));
-    }
-    Told::Unknown
+    let reason = Reason::try_from(words[1]).ok()?;
+    Some(Stage::Refused(Refusal {
+        line: line_in(words[2]),
+        column: column_in(words[3]),
+        reason,
+    }))
 }
 
-fn stage_in(words: &[u64]) -> Told
+fn stage_in(words: &[u64]) -> Option<Stage>
     requires { word_count ≤ length words.now }
     ensures { told_of result ≡ standing_in words.now }
 {
     match words[0] {
-        0 => Told::Known(Stage::Reading(Phase::BeforeA)),
-        1 => Told::Known(Stage::Reading(Phase::AfterA)),
-        2 => Told::Known(Stage::Reading(Phase::EOpen)),
-        3 => Told::Known(Stage::Reading(Phase::AfterT)),
-        4 => Told::Known(Stage::Reading(Phase::AfterF)),
-        5 => Told::Known(Stage::Accepted),
+        0 => Some(Stage::Reading(Phase::BeforeA)),
+        1 => Some(Stage::Reading(Phase::AfterA)),
+        2 => Some(Stage::Reading(Phase::EOpen)),
+        3 => Some(Stage::Reading(Phase::AfterT)),
+        4 => Some(Stage::Reading(Phase::AfterF)),
+        5 => Some(Stage::Accepted),
         6 => refusal_in(words),
-        _ => Told::Unknown,
+        _ => None,
     }
 }
 
@@ -195,13 +174,13 @@ fn totals_in(words: &[u64]) -> Totals
 
 fn state_told(stage: Stage, words: &[u64]) -> State
     requires { word_count ≤ length words.now }
-    ensures { walk_of result ≡ walk_told words.now (some (standing_of stage)) }
+    ensures { walk_of result ≡ walk_told words.now (Some (standing_of stage)) }
 {
     State {
         stage,
         lines: line_in(words[4]),
         held: Opening {
-            format: format::format_of(words[17]),
+            format: Format::from(words[17]),
             year: words[5],
             month: words[6],
         },
@@ -235,8 +214,7 @@ pub fn state_in(words: &[u64]) -> State
     if words.len() < WORDS {
         return unfit_state();
     }
-    let told = stage_in(words);
-    let Told::Known(stage) = told else {
+    let Some(stage) = stage_in(words) else {
         return unfit_state();
     };
     state_told(stage, words)

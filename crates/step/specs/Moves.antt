@@ -1,5 +1,5 @@
 -- Definitions: what a call answers and what it writes, decided before any table is touched.
-use Rattle.std.specs.Prelude.{ℕ, ◌+◌, ◌-◌, Bool, leb, eqb, if◌then◌else◌}
+use Rattle.std.specs.Prelude.{ℕ, ◌+◌, ◌-◌, Bool, leb, eqb, if◌then◌else◌, Result, Ok, Err}
 use Rattle.laws.specs.Finding.{Finding, fine, broken}
 use Rattle.reason.specs.ReasonNumbers.{Notice, notice, notice_of}
 use Rattle.calendar.specs.declared.Quarter.{Quarter}
@@ -25,8 +25,7 @@ use Rattle.state.specs.Walks.{Standing, reading, accepted, refused, Walk, phase_
 use Rattle.step.specs.declared.Change.{Change}
 use Rattle.step.specs.declared.Change.TheVariants.{Nothing, Clear, Opens, Adds, Closes}
 use Rattle.step.specs.declared.Move.{Move}
-use Rattle.step.specs.declared.Reply.{Reply}
-use Rattle.step.specs.declared.Reply.TheVariants.{Fine, Refused}
+use Rattle.reason.specs.declared.Refusal.{Refusal}
 
 -- An answer in the paper's numbers, the bytes taken, the state that is handed back, and what is written.
 pub record Moved : Type 0 where
@@ -40,14 +39,14 @@ abbrev pub all_well : Notice
 all_well = notice 0 0 0
 
 -- ---- what the code answers, in the paper's numbers
-abbrev pub notice_in : Reply → Notice
-notice_in (Fine taken) = all_well
-notice_in (Refused why) = notice_of why
+abbrev pub notice_in : Result ℕ Refusal → Notice
+notice_in (Ok taken) = all_well
+notice_in (Err why) = notice_of why
 
 -- "answers how many bytes that line and its end take (0 if refused)"
-abbrev pub taken_in : Reply → ℕ
-taken_in (Fine taken) = taken
-taken_in (Refused why) = 0
+abbrev pub taken_in : Result ℕ Refusal → ℕ
+taken_in (Ok taken) = taken
+taken_in (Err why) = 0
 
 abbrev pub moved_by : Move → Moved
 moved_by m =

@@ -1,5 +1,5 @@
 -- Laws: the paper's numbers lose nothing of an answer and of what a call writes: no second one fits a promise.
-use Rattle.std.specs.Prelude.{◌≡◌}
+use Rattle.std.specs.Prelude.{◌≡◌, Result, Ok, Err, ℕ}
 use Rattle.std.proofs.Common.{sym, ap}
 use Rattle.reason.specs.ReasonNumbers.{Notice}
 use Rattle.reason.specs.Once.{never_zero, same_notice}
@@ -12,19 +12,18 @@ use Rattle.step.specs.Steps.{Out, out_of}
 use Rattle.step.specs.declared.Answer.{Answer}
 use Rattle.step.specs.declared.Change.{Change}
 use Rattle.step.specs.declared.Move.{Move}
-use Rattle.step.specs.declared.Reply.{Reply}
-use Rattle.step.specs.declared.Reply.TheVariants.{Fine, Refused}
+use Rattle.reason.specs.declared.Refusal.{Refusal}
 
-same_reply : (a b : Reply) → notice_in a ≡ notice_in b → taken_in a ≡ taken_in b → a ≡ b
-same_reply (Fine m) (Fine n) says taken = ap Fine taken
-same_reply (Fine m) (Refused s) says taken = absurd (never_zero s.reason (sym (ap (λ (n : Notice). n.number) says)))
-same_reply (Refused r) (Fine n) says taken = absurd (never_zero r.reason (ap (λ (n : Notice). n.number) says))
-same_reply (Refused r) (Refused s) says taken = ap Refused (same_notice r s says)
+same_reply : (a b : Result ℕ Refusal) → notice_in a ≡ notice_in b → taken_in a ≡ taken_in b → a ≡ b
+same_reply (Ok m) (Ok n) says taken = ap Ok taken
+same_reply (Ok m) (Err s) says taken = absurd (never_zero s.reason (sym (ap (λ (n : Notice). n.number) says)))
+same_reply (Err r) (Ok n) says taken = absurd (never_zero r.reason (ap (λ (n : Notice). n.number) says))
+same_reply (Err r) (Err s) says taken = ap Err (same_notice r s says)
 
-abbrev answer : State → Reply → Answer
+abbrev answer : State → Result ℕ Refusal → Answer
 answer state reply = record { state = state; reply = reply }
 
-same_answers : (s t : State) (p q : Reply) → s ≡ t → p ≡ q → answer s p ≡ answer t q
+same_answers : (s t : State) (p q : Result ℕ Refusal) → s ≡ t → p ≡ q → answer s p ≡ answer t q
 same_answers s t p q state reply = rw (state, reply)
 
 told : (a b : Answer) → notice_in a.reply ≡ notice_in b.reply → taken_in a.reply ≡ taken_in b.reply → walk_of a.state ≡ walk_of b.state → a ≡ b

@@ -1,18 +1,17 @@
 -- Laws: what is looked up for a line is what it asks.
-use Rattle.std.specs.Prelude.{ℕ, ◌<◌, Bool, true, false, ◌&&◌, List, ◌≡◌, refl, take, if◌then◌else◌}
-use Rattle.std.proofs.Common.{ap, ◌∙◌, arith}
+use Rattle.std.specs.Prelude.{ℕ, ◌<◌, List, Option, Some, None, ◌≡◌, refl, take}
+use Rattle.std.proofs.Common.{ap, subst, ◌∙◌}
 use Rattle.lines.specs.Lines.{first_line}
 use Rattle.chars.specs.Characters.{capitals}
 use Rattle.edits.specs.declared.Seen.{Seen}
 use Rattle.edits.specs.declared.format.Format.{Format}
 use Rattle.shape.specs.Fits.{Bounded}
-use Rattle.shape.specs.Shape.{Shape, id_asked}
+use Rattle.shape.specs.Shape.{Shape, id_asked, answered}
 use Rattle.shape.specs.declared.Said.{Said}
 use Rattle.shape.specs.declared.Said.TheVariants.{OfA, OfE, OfS, OfT, OfF, OfNote, OfNone}
 use Rattle.record.specs.ShapeOf.{shape_of}
 use Rattle.record.specs.Judge.{seen_on}
 use Rattle.record.specs.Laws.{asked_of_bytes, lawful_of}
-use Rattle.tables.specs.Laws.{among_none}
 use Rattle.tables.specs.Room.{Tables, room_of}
 use Rattle.tables.specs.Tables.{is_among, feins_of}
 use Rattle.tables.specs.declared.Employer.{Employer}
@@ -23,27 +22,27 @@ use Rattle.step.specs.Questions.{fein_asked_by, id_asked_by, fein_found, id_foun
 use Rattle.step.specs.Steps.{listed_fein, listed_id}
 
 -- ---- an identity number that is asked for fits the id table's 32 bits
-id_small : (s : Shape) (said : Said) → Bounded s said → (id_asked said).number < 1000000000
-id_small s (OfA quarter) bounded = omega arith
-id_small s (OfE employer) bounded = omega arith
-id_small s (OfS employee) bounded = bounded.0
-id_small s OfT bounded = omega arith
-id_small s OfF bounded = omega arith
-id_small s (OfNote note) bounded = omega arith
-id_small s OfNone bounded = omega arith
+id_small : (s : Shape) (said : Said) (id : ℕ) → Bounded s said → id_asked said ≡ Some id → id < 1000000000
+id_small s (OfA quarter) id bounded e = cc
+id_small s (OfE employer) id bounded e = cc
+id_small s (OfS employee) id bounded e = let same : employee.id ≡ id = cc in subst (λ n. n < 1000000000) same bounded.0
+id_small s OfT id bounded e = cc
+id_small s OfF id bounded e = cc
+id_small s (OfNote note) id bounded e = cc
+id_small s OfNone id bounded e = cc
 
-pub asked_small : (format : Format) (bytes : List ℕ) → (id_asked_by format bytes).number < 1000000000
-asked_small format bytes = id_small (shape_of format) ((shape_of format).says (capitals bytes)) ((lawful_of format).bounded (capitals bytes))
+pub asked_small : (format : Format) (bytes : List ℕ) (id : ℕ) → id_asked_by format bytes ≡ Some id → id < 1000000000
+asked_small format bytes id = id_small (shape_of format) ((shape_of format).says (capitals bytes)) id ((lawful_of format).bounded (capitals bytes))
 
--- ---- where nothing is asked nothing is found
-feins_among : (asks : Bool) (number employers : ℕ) (list : List Employer)
-    → is_among number (feins_of (take (if asks then employers else 0) list)) ≡ asks && is_among number (feins_of (take employers list))
-feins_among true number employers list = refl
-feins_among false number employers list = among_none number
+-- ---- what is found is the answer to what is asked
+feins_among : (asked : Option ℕ) (employers : ℕ) (list : List Employer)
+    → fein_found asked employers list ≡ answered asked (λ fein. is_among fein (feins_of (take employers list)))
+feins_among None employers list = refl
+feins_among (Some fein) employers list = refl
 
-ids_among : (asks : Bool) (number used : ℕ) (ids : List ℕ) → is_among number (take (if asks then used else 0) ids) ≡ asks && is_among number (take used ids)
-ids_among true number used ids = refl
-ids_among false number used ids = among_none number
+ids_among : (asked : Option ℕ) (used : ℕ) (ids : List ℕ) → id_found asked used ids ≡ answered asked (λ id. is_among id (take used ids))
+ids_among None used ids = refl
+ids_among (Some id) used ids = refl
 
 module _ (walk : Walk) (t : Tables) where
   -- What the tables tell of the numbers that the record in front of the bytes asks for.
@@ -58,7 +57,7 @@ module _ (walk : Walk) (t : Tables) where
   looked_up_lem bytes =
       let fein = fein_asked_by walk.held.format bytes in
       let id = id_asked_by walk.held.format bytes in
-      rw (feins_among fein.asks fein.number walk.all.employers t.list, ids_among id.asks id.number walk.used t.ids)
+      rw (feins_among fein walk.all.employers t.list, ids_among id walk.used t.ids)
 
   asked_standing : (s : List ℕ) (standing : Standing)
       → by_standing (room_of t) (seen_on walk.held.format (listed_fein walk t) (listed_id walk t) (capitals s)) (first_line s) walk standing

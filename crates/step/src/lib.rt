@@ -1,6 +1,6 @@
 // What opening, one line and the end answer and write, decided over values before any table is
 // touched.
-#![tactic(auto)]
+#![tactic(auto, unfolding(crate::specs::Moves::end_moved, crate::specs::Moves::open_moved))]
 
 pub mod line;
 mod reading;
@@ -9,28 +9,21 @@ ghost use Rattle.std.specs.Prelude.{◌<◌, ◌≡◌};
 ghost use Rattle.reason.specs.ReasonNumbers.{number_of, notice_of};
 ghost use Rattle.edits.specs.Formats.{opening_number};
 ghost use Rattle.state.specs.Walks.{walk_of, reading};
-ghost use Rattle.step.specs.Moves.{taken_in, moved_by, stays as stays_of, again as again_of, refuses, accepts, end_standing, end_moved, open_moved};
+ghost use Rattle.step.specs.Moves.{notice_in, taken_in, moved_by, stays as stays_of, again as again_of, refuses, accepts, end_standing, end_moved, open_moved};
 
 use edits::{Opening, Phase, format};
-use reason::{Edit, Reason, Refusal};
+use reason::{Broken, Reason, Refusal};
 use state::{Stage, State, fitness};
 use tables::Employer;
 
-// The bytes taken, 0 at an end call; or a refusal.
-#[derive(Clone, Copy)]
-pub enum Reply {
-    Fine(usize),
-    Refused(Refusal),
-}
+// What a call answers: the bytes taken, 0 at an end call; or a refusal.
+pub type Reply = Result<usize, Refusal>;
 
 // The bytes that a line took, 0 if it was refused.
 pub fn taken_in(reply: Reply) -> usize
     ensures { result ≡ taken_in reply }
 {
-    match reply {
-        Reply::Fine(taken) => taken,
-        Reply::Refused(_) => 0,
-    }
+    reply.unwrap_or(0)
 }
 
 // What a call hands back: the reply, and the state for the next call. The state stands last, so
@@ -61,44 +54,36 @@ pub struct Move {
     pub answer: Answer,
 }
 
+// What a call answers, the state for the next call, and what it writes.
+fn answers(reply: Reply, state: State, change: Change) -> Move
+    ensures { moved_by result ≡ record { says = notice_in reply; taken = taken_in reply; walk = walk_of state; change = change } }
+{
+    Move {
+        change,
+        answer: Answer { reply, state },
+    }
+}
+
 // 71 and 72: nothing changed.
 fn stays(st: State, reason: Reason) -> Move
     ensures { moved_by result ≡ stays_of (number_of reason) (walk_of st) }
 {
-    Move {
-        change: Change::Nothing,
-        answer: Answer {
-            reply: Reply::Refused(Refusal {
-                line: 0,
-                column: 0,
-                reason,
-            }),
-            state: st,
-        },
-    }
+    let refusal = Refusal {
+        line: 0,
+        column: 0,
+        reason,
+    };
+    answers(Err(refusal), st, Change::Nothing)
 }
 
 // A refused walk: answered again, both tables zeroed again, but for 70 and 73.
 fn again(st: State, refusal: Refusal) -> Move
     ensures { moved_by result ≡ again_of (notice_of refusal) (walk_of st) }
 {
-    let reason = refusal.reason;
-    if fitness::is_of_opening(reason::number_of(reason)) {
-        return Move {
-            change: Change::Nothing,
-            answer: Answer {
-                reply: Reply::Refused(refusal),
-                state: st,
-            },
-        };
+    if fitness::is_of_opening(u8::from(refusal.reason)) {
+        return answers(Err(refusal), st, Change::Nothing);
     }
-    Move {
-        change: Change::Clear,
-        answer: Answer {
-            reply: Reply::Refused(refusal),
-            state: st,
-        },
-    }
+    answers(Err(refusal), st, Change::Clear)
 }
 
 // A refusal at the line after those read: the walk ends, both tables are zeroed.
@@ -106,56 +91,33 @@ fn refuse(st: State, column: u16, reason: Reason) -> Move
     requires { st.lines < 4294967295 }
     ensures { moved_by result ≡ refuses (walk_of st) column (number_of reason) }
 {
-    let held = st.held;
-    let format = held.format;
     let refusal = Refusal {
         line: st.lines + 1,
         column,
         reason,
     };
-    Move {
-        change: Change::Clear,
-        answer: Answer {
-            reply: Reply::Refused(refusal),
-            state: state::refused(format, refusal),
-        },
-    }
+    let ended = state::refused(st.held.format, refusal);
+    answers(Err(refusal), ended, Change::Clear)
 }
 
 // The file is accepted: the state keeps all as it is after F, the phase apart.
 fn accept(st: State) -> Move
     ensures { moved_by result ≡ accepts (walk_of st) }
 {
-    let held = st.held;
-    let filed = st.filed;
-    let open = st.open;
-    let all = st.all;
-    let state = State {
+    let accepted = State {
         stage: Stage::Accepted,
-        lines: st.lines,
-        held,
-        filed,
-        open,
-        all,
-        used: st.used,
+        ..st
     };
-    Move {
-        change: Change::Nothing,
-        answer: Answer {
-            reply: Reply::Fine(0),
-            state,
-        },
-    }
+    answers(Ok(0), accepted, Change::Nothing)
 }
 
 fn end_reading(st: State, phase: Phase) -> Move
     requires { st.lines < 4294967295 }
     ensures { moved_by result ≡ end_standing (walk_of st) (reading phase) }
 {
-    let e = shape::end_edit(phase);
-    match e {
-        Edit::Passed => accept(st),
-        Edit::Broken(column, reason) => refuse(st, column, reason),
+    match shape::end_edit(phase) {
+        Ok(()) => accept(st),
+        Err(Broken(column, reason)) => refuse(st, column, reason),
     }
 }
 
@@ -166,8 +128,7 @@ pub fn end_move(st: State, ids: usize, list: usize) -> Move
     if fitness::is_unfit(st, ids, list) {
         return stays(st, Reason::StateUnfit);
     }
-    let stage = st.stage;
-    match stage {
+    match st.stage {
         Stage::Reading(phase) => end_reading(st, phase),
         Stage::Accepted => stays(st, Reason::WalkEnded),
         Stage::Refused(refusal) => again(st, refusal),
@@ -189,25 +150,13 @@ pub fn open_move(held: Opening) -> Move
     ensures { moved_by result ≡ open_moved held }
 {
     if format::may_open(held) {
-        return Move {
-            change: Change::Clear,
-            answer: Answer {
-                reply: Reply::Fine(0),
-                state: state::opened(held),
-            },
-        };
+        return answers(Ok(0), state::opened(held), Change::Clear);
     }
     let refusal = Refusal {
         line: 0,
         column: 0,
         reason: opening_reason(held),
     };
-    let format = held.format;
-    Move {
-        change: Change::Nothing,
-        answer: Answer {
-            reply: Reply::Refused(refusal),
-            state: state::refused(format, refusal),
-        },
-    }
+    let refused = state::refused(held.format, refusal);
+    answers(Err(refusal), refused, Change::Nothing)
 }

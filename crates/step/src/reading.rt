@@ -1,58 +1,52 @@
 // A line is read: its verdict, and what a record that passes its edits leaves in the state and
 // writes.
-ghost use Rattle.std.specs.Prelude.{◌<◌, false, ◌≡◌};
+#![tactic(auto, unfolding(crate::specs::Moves::line_seen))]
+
+ghost use Rattle.std.specs.Prelude.{◌+◌, ◌<◌, ◌^◌, ◌⊎◌, false, ◌≡◌};
 ghost use Rattle.lines.specs.Lines.{first_line};
-ghost use Rattle.shape.specs.After.{filed_after, entry_at_e, with_one, one_employee};
+ghost use Rattle.shape.specs.After.{filed_after, entry_at_e, none_open, one_used};
 ghost use Rattle.state.specs.Unfit.{unfit};
 ghost use Rattle.state.specs.Walks.{reading, walk_of};
-ghost use Rattle.step.specs.Moves.{moved_by, all_well, after as after_of, goes_on, context_of, by_standing, line_seen};
+ghost use Rattle.step.specs.Moves.{moved_by, all_well, after as after_of, walk_after, goes_on, context_of, by_standing, line_seen};
 ghost use Rattle.step.specs.Ready.{Ready};
 
-use crate::{Answer, Change, Move, Reply};
+use crate::{Change, Move};
 use calendar::Quarter;
 use edits::{Context, Open, Phase, Seen, Totals};
-use reason::Reason;
-use shape::{EmployeeOn, EmployerOn, Note, Said, Verdict};
+use reason::{Broken, Reason};
+use shape::{EmployeeOn, EmployerOn, Note, Said};
 use state::{Stage, State, fitness};
 use tables::Employer;
 
-// One line more.
-fn after(st: State, phase: Phase, filed: Quarter, e: Open, all: Totals, used: usize) -> State
+// One line more, and the next is met in this phase.
+fn one_line(st: State, phase: Phase) -> State
     requires { st.lines < 4294967295 }
-    ensures { walk_of result ≡ after_of (walk_of st) phase filed e all used }
+    ensures { walk_of result ≡ after_of (walk_of st) phase st.filed st.open st.all st.used }
 {
-    let held = st.held;
     State {
         stage: Stage::Reading(phase),
         lines: st.lines + 1,
-        held,
-        filed,
-        open: e,
-        all,
-        used,
+        ..st
     }
 }
 
+// One line more, and no E is open, nor an id in use.
+fn no_employer(st: State, phase: Phase) -> State
+    requires { st.lines < 4294967295 }
+    ensures { walk_of result ≡ after_of (walk_of st) phase st.filed none_open st.all 0 }
+{
+    State {
+        open: state::none_open(),
+        used: 0,
+        ..one_line(st, phase)
+    }
+}
+
+// The line is taken: so many bytes, with its end.
 fn moves(state: State, taken: usize, change: Change) -> Move
     ensures { moved_by result ≡ record { says = all_well; taken = taken; walk = walk_of state; change = change } }
 {
-    Move {
-        change,
-        answer: Answer {
-            reply: Reply::Fine(taken),
-            state,
-        },
-    }
-}
-
-// A
-fn transmitter(st: State, taken: usize, quarter: Quarter) -> Move
-    requires { Ready (walk_of st) (Said.OfA quarter) }
-    ensures { moved_by result ≡ goes_on (walk_of st) taken (Said.OfA quarter) }
-{
-    let none = state::none_open();
-    let next = after(st, Phase::AfterA, quarter, none, st.all, 0);
-    moves(next, taken, Change::Nothing)
+    crate::answers(Ok(taken), state, change)
 }
 
 // The entry that E begins: no S record yet.
@@ -73,13 +67,7 @@ fn entry_at_e(e: EmployerOn) -> Employer
 fn filed_after(e: EmployerOn, filed: Quarter) -> Quarter
     ensures { result ≡ filed_after (Said.OfE e) filed }
 {
-    if e.files {
-        return Quarter {
-            year: e.year,
-            month: e.month,
-        };
-    }
-    filed
+    e.files.unwrap_or(filed)
 }
 
 // E
@@ -87,61 +75,54 @@ fn employer(st: State, taken: usize, e: EmployerOn) -> Move
     requires { Ready (walk_of st) (Said.OfE e) }
     ensures { moved_by result ≡ goes_on (walk_of st) taken (Said.OfE e) }
 {
-    let all = st.all;
-    let open = Open {
-        fein: e.fein,
-        follow: e.follow,
-        count: 0,
-        sum: 0,
-        second: 0,
-        others: 0,
-        nearest: 0,
-        noted: false,
-        account_head: e.account_head,
-        account_tail: e.account_tail,
+    let next = State {
+        filed: filed_after(e, st.filed),
+        open: Open {
+            fein: e.fein,
+            follow: e.follow,
+            account_head: e.account_head,
+            account_tail: e.account_tail,
+            ..state::none_open()
+        },
+        all: Totals {
+            employers: st.all.employers + 1,
+            ..st.all
+        },
+        ..no_employer(st, Phase::EOpen)
     };
-    let totals = Totals {
-        count: all.count,
-        employers: all.employers + 1,
-        sum: all.sum,
-        second: all.second,
-        others: all.others,
-        notes: all.notes,
-    };
-    let filed = filed_after(e, st.filed);
-    let next = after(st, Phase::EOpen, filed, open, totals, 0);
-    let begun = Change::Opens(all.employers as usize, entry_at_e(e));
+    let begun = Change::Opens(st.all.employers as usize, entry_at_e(e));
     moves(next, taken, begun)
 }
 
-// The state with one S more, and so many ids in use.
-fn with_one(st: State, s: EmployeeOn, used: usize) -> State
-    requires { Ready (walk_of st) (Said.OfS s) }
-    ensures { walk_of result ≡ after_of (walk_of st) Phase.EOpen st.filed (with_one s st.open) (one_employee s st.all) used }
+// How many ids are in use with this one. 0 takes no room.
+fn one_used(used: usize, id: u64) -> usize
+    requires { (id ≡ 0) ⊎ (used + 1 < 2 ^ 64) }
+    ensures { result ≡ one_used used id }
 {
-    let all = st.all;
-    let open = st.open;
-    let under = Open {
-        fein: open.fein,
-        follow: open.follow,
-        count: open.count + 1,
-        sum: open.sum + s.wages,
-        second: open.second + s.second,
-        others: open.others,
-        nearest: open.nearest,
-        noted: open.noted,
-        account_head: open.account_head,
-        account_tail: open.account_tail,
-    };
-    let totals = Totals {
-        count: all.count + 1,
-        employers: all.employers,
-        sum: all.sum + s.wages,
-        second: all.second + s.second,
-        others: all.others,
-        notes: all.notes,
-    };
-    after(st, Phase::EOpen, st.filed, under, totals, used)
+    if id == 0 { used } else { used + 1 }
+}
+
+// The state with one S more.
+fn with_one(st: State, s: EmployeeOn) -> State
+    requires { Ready (walk_of st) (Said.OfS s) }
+    ensures { walk_of result ≡ walk_after (Said.OfS s) (walk_of st) }
+{
+    State {
+        open: Open {
+            count: st.open.count + 1,
+            sum: st.open.sum + s.wages,
+            second: st.open.second + s.second,
+            ..st.open
+        },
+        all: Totals {
+            count: st.all.count + 1,
+            sum: st.all.sum + s.wages,
+            second: st.all.second + s.second,
+            ..st.all
+        },
+        used: one_used(st.used, s.id),
+        ..one_line(st, Phase::EOpen)
+    }
 }
 
 // S
@@ -149,12 +130,11 @@ fn employee(st: State, taken: usize, s: EmployeeOn) -> Move
     requires { Ready (walk_of st) (Said.OfS s) }
     ensures { moved_by result ≡ goes_on (walk_of st) taken (Said.OfS s) }
 {
-    let used = st.used;
+    let next = with_one(st, s);
     if s.id == 0 {
-        return moves(with_one(st, s, used), taken, Change::Nothing);
+        return moves(next, taken, Change::Nothing);
     }
-    let next = with_one(st, s, used + 1);
-    moves(next, taken, Change::Adds(used, s.id as u32))
+    moves(next, taken, Change::Adds(st.used, s.id as u32))
 }
 
 // T
@@ -162,26 +142,12 @@ fn total(st: State, taken: usize) -> Move
     requires { Ready (walk_of st) Said.OfT }
     ensures { moved_by result ≡ goes_on (walk_of st) taken Said.OfT }
 {
-    let all = st.all;
-    let open = st.open;
-    let none = state::none_open();
-    let next = after(st, Phase::AfterT, st.filed, none, all, 0);
-    let last = (all.employers - 1) as usize;
+    let last = (st.all.employers - 1) as usize;
     moves(
-        next,
+        no_employer(st, Phase::AfterT),
         taken,
-        Change::Closes(st.used, last, open.count, open.sum),
+        Change::Closes(st.used, last, st.open.count, st.open.sum),
     )
-}
-
-// F
-fn last(st: State, taken: usize) -> Move
-    requires { Ready (walk_of st) Said.OfF }
-    ensures { moved_by result ≡ goes_on (walk_of st) taken Said.OfF }
-{
-    let none = state::none_open();
-    let next = after(st, Phase::AfterF, st.filed, none, st.all, 0);
-    moves(next, taken, Change::Nothing)
 }
 
 // A record under an E that is no S.
@@ -189,64 +155,47 @@ fn noted(st: State, taken: usize, note: Note) -> Move
     requires { Ready (walk_of st) (Said.OfNote note) }
     ensures { moved_by result ≡ goes_on (walk_of st) taken (Said.OfNote note) }
 {
-    let all = st.all;
-    let totals = Totals {
-        count: all.count,
-        employers: all.employers,
-        sum: all.sum,
-        second: all.second,
-        others: all.others + 1,
-        notes: all.notes,
+    let next = State {
+        all: Totals {
+            others: st.all.others + 1,
+            ..st.all
+        },
+        ..one_line(st, state::phase_of(st.stage))
     };
-    let stage = st.stage;
-    let phase = state::phase_of(stage);
-    let next = after(st, phase, st.filed, st.open, totals, st.used);
     moves(next, taken, Change::Nothing)
 }
 
-// A line of no record. It never passes.
-fn no_record(st: State, taken: usize) -> Move
-    requires { Ready (walk_of st) Said.OfNone }
-    ensures { moved_by result ≡ goes_on (walk_of st) taken Said.OfNone }
-{
-    let none = state::none_open();
-    let stage = st.stage;
-    let phase = state::phase_of(stage);
-    let next = after(st, phase, st.filed, none, st.all, 0);
-    moves(next, taken, Change::Nothing)
-}
-
-// The record says what it says: the walk goes on after its line.
+// The record says what it says: the walk goes on after its line. A line of no record never passes.
 fn go_on(st: State, taken: usize, said: Said) -> Move
     requires { Ready (walk_of st) said }
     ensures { moved_by result ≡ goes_on (walk_of st) taken said }
 {
-    match said {
-        Said::OfA(quarter) => transmitter(st, taken, quarter),
-        Said::OfE(e) => employer(st, taken, e),
-        Said::OfS(s) => employee(st, taken, s),
-        Said::OfT => total(st, taken),
-        Said::OfF => last(st, taken),
-        Said::OfNote(note) => noted(st, taken, note),
-        Said::OfNone => no_record(st, taken),
-    }
+    let next = match said {
+        Said::OfA(filed) => State {
+            filed,
+            ..no_employer(st, Phase::AfterA)
+        },
+        Said::OfE(e) => return employer(st, taken, e),
+        Said::OfS(s) => return employee(st, taken, s),
+        Said::OfT => return total(st, taken),
+        Said::OfF => no_employer(st, Phase::AfterF),
+        Said::OfNote(note) => return noted(st, taken, note),
+        Said::OfNone => no_employer(st, state::phase_of(st.stage)),
+    };
+    moves(next, taken, Change::Nothing)
 }
 
 fn context(st: State, phase: Phase, ids: usize, list: usize) -> Context
     ensures { result ≡ context_of (record { ids = ids; list = list }) (walk_of st) phase }
 {
-    let held = st.held;
-    let filed = st.filed;
-    let open = st.open;
-    let all = st.all;
     Context {
         phase,
-        held,
-        filed,
-        open,
-        all,
+        held: st.held,
+        filed: st.filed,
+        open: st.open,
+        all: st.all,
         ids_full: ids <= st.used,
-        list_full: fitness::entries_used(list) <= all.employers,
+        list_full: fitness::entries_used(list) <= st.all.employers,
     }
 }
 
@@ -255,10 +204,9 @@ fn read_line(st: State, phase: Phase, bytes: &[u8], seen: Seen, ids: usize, list
     ensures { moved_by result ≡ by_standing (record { ids = ids; list = list }) seen (first_line bytes.now) (walk_of st) (reading phase) }
 {
     let here = context(st, phase, ids, list);
-    let v = record::judge(here, seen, bytes);
-    match v {
-        Verdict::Refused(column, reason) => crate::refuse(st, column, reason),
-        Verdict::Passed(taken, said) => go_on(st, taken, said),
+    match record::judge(here, seen, bytes) {
+        Ok((taken, said)) => go_on(st, taken, said),
+        Err(Broken(column, reason)) => crate::refuse(st, column, reason),
     }
 }
 
@@ -270,8 +218,7 @@ pub fn line_seen(st: State, bytes: &[u8], seen: Seen, ids: usize, list: usize) -
     if fitness::is_unfit(st, ids, list) {
         return crate::stays(st, Reason::StateUnfit);
     }
-    let stage = st.stage;
-    match stage {
+    match st.stage {
         Stage::Reading(phase) => read_line(st, phase, bytes, seen, ids, list),
         Stage::Accepted => crate::stays(st, Reason::WalkEnded),
         Stage::Refused(refusal) => crate::again(st, refusal),

@@ -1,9 +1,9 @@
 -- Laws: a table that is wiped, whether a number is among others, the FEINs of a list, and an entry that is closed.
-use Prim.Native.Nat.{ℕ, zero, suc, ◌≤◌, min}
-use Rattle.std.specs.Prelude.{false, ◌||◌, ◌≡◌, refl, get_or, take, set, replicate}
+use Prim.Native.Nat.{ℕ, ◌≤◌, min}
+use Rattle.std.specs.Prelude.{false, ◌||◌, ◌≡◌, refl, get_or, set, replicate}
 use Rattle.std.proofs.Math.Bool.{or_assoc}
-use mathlib.Core.List.{List, [], ◌∷◌, ◌++◌, map, append-nil, map-append}
-use Rattle.std.proofs.Common.{ap, length-drop, length-set, drop_of_length-le}
+use mathlib.Core.List.{List, [], ◌∷◌, ◌++◌, append-nil, map-append}
+use Rattle.std.proofs.Common.{length-drop, length-set, drop_of_length-le}
 use Rattle.std.proofs.Math.Nat.{zero-min}
 use native.Mathlib.Omega.{arith}
 use Rattle.std.proofs.Math.ListN.{length, length-append, length-replicate}
@@ -44,16 +44,8 @@ among_append v [] b = refl
 among_append v (x ∷ a) b = rw (among_append v a b, or_assoc)
 
 -- ---- the employer list
-map_take : {A B : Type 0} (f : A → B) (n : ℕ) (l : List A) → map f (take n l) ≡ take n (map f l)
-map_take f zero l = refl
-map_take f (suc n) [] = refl
-map_take f (suc n) (x ∷ l) = ap (λ (t : List _). f x ∷ t) (map_take f n l)
-
 pub feins_append : (a b : List Employer) → feins_of (a ++ b) ≡ feins_of a ++ feins_of b
 feins_append a b = map-append (λ (e : Employer). e.fein) a b
-
-pub feins_take : (n : ℕ) (l : List Employer) → feins_of (take n l) ≡ take n (feins_of l)
-feins_take n l = map_take (λ (e : Employer). e.fein) n l
 
 pub closed_is : (at count cents : ℕ) (l : List Employer) → closed_entry_at at count cents l ≡ set l at (closed (get_or l at no_employer) count cents)
 unfolding closed_entry_at

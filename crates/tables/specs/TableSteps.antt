@@ -1,16 +1,16 @@
 -- Laws: what a step of the code leaves, as the proofs of this crate cite it.
-use Prim.Native.Nat.{ℕ, zero, suc, ◌+◌, ◌<◌, min}
-use Rattle.std.specs.Prelude.{◌||◌, ◌≡◌, eqb, length, get_or, take, drop, set}
+use Prim.Native.Nat.{ℕ, zero, suc, ◌+◌, ◌≤◌, ◌<◌, min}
+use Rattle.std.specs.List.{list_any}
+use Rattle.std.specs.Prelude.{Bool, refl, ◌||◌, ◌≡◌, eqb, length, get_or, take, drop, set}
 use Rattle.std.proofs.Math.Bool.{or-false}
-use mathlib.Core.List.{List, [], ◌∷◌}
+use mathlib.Core.List.{List, [], ◌∷◌, ◌++◌}
 use Rattle.std.proofs.Common.{ap, not-suc-le-zero, le_of_suc-le-suc, add-one, take-suc}
 use Rattle.std.proofs.Math.Nat.{zero-min, suc-min-suc}
 use native.Mathlib.Omega.{arith}
-use Rattle.std.proofs.lemmas.List.{length-map}
-use Rattle.std.proofs.Math.ListN.{get_or-map}
+use Rattle.std.proofs.lemmas.List.{length-take}
 use Rattle.std.proofs.Math.Seq.{take-nil, drop-nil}
-use Rattle.tables.specs.Laws.{among_append}
-use Rattle.tables.specs.Tables.{wiped, is_among, no_employer, feins_of}
+use Rattle.tables.specs.Laws.{among_append, wiped_all}
+use Rattle.tables.specs.Tables.{wiped, is_among, feins_of}
 use Rattle.tables.specs.declared.Employer.{Employer}
 
 -- ---- one more entry
@@ -40,16 +40,26 @@ module _ {A : Type 0} where
   drop_least zero (x ∷ l) = rw zero-min
   drop_least (suc n) (x ∷ l) = rw suc-min-suc (drop_least n l)
 
-  pub wiped_least : (z : A) (n : ℕ) (l : List A) → wiped z (min n (length l)) l ≡ wiped z n l
+  -- Wiping all of the first n, and leaving the others, wipes the first n.
+  pub wiped_part : (z : A) (n i : ℕ) (l : List A) → length (take (min n (length l)) l) ≤ i
+      → wiped z i (take (min n (length l)) l) ++ drop (min n (length l)) l ≡ wiped z n l
   unfolding wiped
-  wiped_least z n l =
-      let same : min (min n (length l)) (length l) ≡ min n (length l) = omega arith in
-      rw (same, drop_least)
+  wiped_part z n i l past =
+      let long : length (take (min n (length l)) l) ≡ min n (length l) = rw length-take (omega arith) in
+      rw (wiped_all z (take (min n (length l)) l) i past, long, drop_least)
 
--- ---- the FEINs of a list
-module _ (l : List Employer) where
-  pub feins_length : length (feins_of l) ≡ length l
-  feins_length = length-map l (λ (e : Employer). e.fein)
+-- ---- an entry that passes a test
+-- What a call answers of an entry is what a test tells of it.
+abbrev pub Tells : {A : Type 0} → (A → Bool → Type 0) → (A → Bool) → Type 0
+Tells {A} answers test = (x : A) (passes : Bool) → answers x passes → passes ≡ test x
 
-  pub fein_at : (at : ℕ) → get_or (feins_of l) at 0 ≡ (get_or l at no_employer).fein
-  fein_at at = get_or-map (λ (e : Employer). e.fein) l at no_employer
+-- A number is among these, or among their FEINs, where one of them passes the test for it.
+pub any_number : (v : ℕ) (l : List ℕ) → list_any (λ x. eqb x v) l ≡ is_among v l
+unfolding is_among
+any_number v [] = refl
+any_number v (x ∷ l) = rw (any_number v l)
+
+pub any_fein : (v : ℕ) (l : List Employer) → list_any (λ (e : Employer). eqb e.fein v) l ≡ is_among v (feins_of l)
+unfolding is_among
+any_fein v [] = refl
+any_fein v (e ∷ l) = rw (any_fein v l)

@@ -7,11 +7,10 @@
 
 ghost use Rattle.std.specs.Prelude.{◌<◌};
 
-use calendar::{Quarter, Timing};
+use calendar::Quarter;
 use field::class;
-use lines::Cut;
-use number::Number;
-use reason::{Edit, Reason};
+use field::class::Field;
+use reason::{Broken, Edit};
 use std::io;
 use text::address;
 
@@ -20,64 +19,43 @@ fn print_answer(rt: HostRuntime, number: u64, column: u64, value: u64) -> io::Re
     println!(rt; "{number} {column} {value}")
 }
 
-fn print_refusal(rt: HostRuntime, column: u16, reason: Reason) -> io::Result<()> {
-    print_answer(rt, reason::number_of(reason) as u64, column as u64, 0)
+fn print_number(rt: HostRuntime, n: Result<u64, Broken>) -> io::Result<()> {
+    match n {
+        Ok(v) => print_answer(rt, 0, 0, v),
+        Err(Broken(column, reason)) => {
+            print_answer(rt, u64::from(u8::from(reason)), u64::from(column), 0)
+        }
+    }
 }
 
 fn print_edit(rt: HostRuntime, e: Edit) -> io::Result<()> {
-    match e {
-        Edit::Passed => print_answer(rt, 0, 0, 0),
-        Edit::Broken(column, reason) => print_refusal(rt, column, reason),
-    }
+    print_number(rt, e.map(|()| 0))
 }
 
-fn print_number(rt: HostRuntime, n: Number) -> io::Result<()> {
-    match n {
-        Number::Value(v) => print_answer(rt, 0, 0, v),
-        Number::Refused(column, reason) => print_refusal(rt, column, reason),
-    }
-}
-
-fn print_flag(rt: HostRuntime, holds: bool) -> io::Result<()> {
-    if holds {
-        return print_answer(rt, 0, 0, 1);
-    }
-    print_answer(rt, 0, 0, 0)
-}
-
+// The byte that a character stands for: / for LF, \ for CR, and any other for itself.
 fn byte_for(c: u8) -> u8 {
     match c {
-        b'/' => 10,
-        b'\\' => 13,
+        b'/' => b'\n',
+        b'\\' => b'\r',
         _ => c,
     }
 }
 
-// The bytes of a text in which / stands for LF and \ for CR.
-fn with_ends(s: &[u8], out: &mut [u8]) {
-    let mut i = 0;
-    while i < s.len() {
-        if out.len() <= i {
-            return;
-        }
-        out[i] = byte_for(s[i]);
-        i += 1;
-    }
-}
-
-// The first line of such a text, which is to have n characters.
+// The first line of a text of such characters, which is to have n of them.
 fn print_cut(rt: HostRuntime, s: &[u8], n: u16) -> io::Result<()> {
     let length = s.len();
     if 256 < length {
         return print_answer(rt, 99, 0, 0);
     }
     let mut bytes = [0u8; 256];
-    with_ends(s, &mut bytes);
-    let c = lines::cut_line(&bytes[..length], n);
-    match c {
-        Cut::Taken(taken) => print_answer(rt, 0, 0, taken as u64),
-        Cut::Refused(column, reason) => print_refusal(rt, column, reason),
+    bytes[..length].copy_from_slice(s);
+    for byte in &mut bytes {
+        *byte = byte_for(*byte);
     }
+    print_number(
+        rt,
+        lines::cut_line(&bytes[..length], n).map(|taken| taken as u64),
+    )
 }
 
 // A number written into 24 columns of points.
@@ -89,17 +67,8 @@ fn print_written(rt: HostRuntime, first: u16, last: u16, v: u64) -> io::Result<(
 }
 
 // ---- one case: its test, its numbers and its text
-// A number of the case's own, 0 where it holds no digits.
-fn read(s: &[u8], first: u16, last: u16) -> u64 {
-    let n = number::read_number(s, first, last);
-    let Number::Value(v) = n else {
-        return 0;
-    };
-    v
-}
-
 fn read_small(s: &[u8], first: u16, last: u16) -> u16 {
-    (read(s, first, last) % 65536) as u16
+    (number::value_in(s, first, last) % 65536) as u16
 }
 
 // A year and a month from a column on.
@@ -107,8 +76,8 @@ fn quarter(s: &[u8], first: u16) -> Quarter
     requires { first < 100 }
 {
     Quarter {
-        year: read(s, first, first + 3),
-        month: read(s, first + 4, first + 5),
+        year: number::value_in(s, first, first + 3),
+        month: number::value_in(s, first + 4, first + 5),
     }
 }
 
@@ -120,36 +89,33 @@ fn run_case(rt: HostRuntime, s: &[u8]) -> io::Result<()> {
     let a = read_small(s, 3, 5);
     let b = read_small(s, 6, 8);
     let text = &s[8..];
-    if test < 19 {
-        return print_edit(rt, class::class_edit(class::class_of(test), text, a, b));
-    }
-    if 60 <= test {
-        return print_edit(
-            rt,
-            class::class_edit(class::class_of(test - 60 + 19), text, a, b),
-        );
-    }
-    if test < 30 {
-        return print_number(rt, reading(test, text, a, b));
-    }
-    if test < 40 {
-        return print_edit(rt, address_edit(test, text, a));
-    }
-    if test == 44 {
-        return print_answer(
+    match test {
+        0..=18 => print_edit(rt, class_test(test, text, a, b)),
+        19..=29 => print_number(rt, reading(test, text, a, b)),
+        30..=39 => print_edit(rt, address_edit(test, text, a)),
+        44 => print_answer(
             rt,
             0,
             0,
-            timing_number(calendar::timing_of(quarter(text, 1), quarter(text, 7))),
-        );
+            calendar::timing_of(quarter(text, 1), quarter(text, 7)) as u64,
+        ),
+        40..=49 => print_answer(rt, 0, 0, u64::from(calendar_test(test, text))),
+        50..=59 => more(rt, test, text, a, b),
+        _ => print_edit(rt, class_test(test - 60 + 19, text, a, b)),
     }
-    if test < 50 {
-        return print_flag(rt, calendar_test(test, text));
-    }
-    more(rt, test, text, a, b)
 }
 
-fn reading(test: u16, s: &[u8], a: u16, b: u16) -> Number {
+// The test of the class of a number, of the columns a to b.
+fn class_test(number: u16, s: &[u8], a: u16, b: u16) -> Edit {
+    let field = Field {
+        class: class::class_of(number),
+        first: a,
+        last: b,
+    };
+    class::class_edit(s, field)
+}
+
+fn reading(test: u16, s: &[u8], a: u16, b: u16) -> Result<u64, Broken> {
     match test {
         20 => number::read_number(s, a, b),
         21 => rules::read_year(s, a, b),
@@ -174,26 +140,17 @@ fn address_edit(test: u16, s: &[u8], a: u16) -> Edit {
 // A date in columns 1 to 8 and a quarter in 9 to 14, or quarters in 1 to 6 and 7 to 12.
 fn calendar_test(test: u16, s: &[u8]) -> bool {
     match test {
-        40 => calendar::is_date(read(s, 1, 8)),
-        41 => calendar::in_quarter(read(s, 1, 8), quarter(s, 9)),
+        40 => calendar::is_date(number::value_in(s, 1, 8)),
+        41 => calendar::in_quarter(number::value_in(s, 1, 8), quarter(s, 9)),
         42 => calendar::is_allowed(quarter(s, 1)),
         _ => calendar::is_after(quarter(s, 1), quarter(s, 7)),
-    }
-}
-
-// Closed, current or later, as 0, 1 and 2.
-fn timing_number(timing: Timing) -> u64 {
-    match timing {
-        Timing::Closed => 0,
-        Timing::Current => 1,
-        Timing::Later => 2,
     }
 }
 
 fn more(rt: HostRuntime, test: u16, s: &[u8], a: u16, b: u16) -> io::Result<()> {
     match test {
         50 => print_cut(rt, s, a),
-        51 => print_written(rt, a, b, read(s, 1, 19)),
+        51 => print_written(rt, a, b, number::value_in(s, 1, 19)),
         52 => print_edit(
             rt,
             chars::columns::every_column(chars::columns::Allowed::Permitted, s, a, b),
@@ -203,24 +160,13 @@ fn more(rt: HostRuntime, test: u16, s: &[u8], a: u16, b: u16) -> io::Result<()> 
 }
 
 // ---- all cases
-// One case after the other; what stands after the last line end is no case.
-fn cases(rt: HostRuntime, input: &[u8]) -> io::Result<()> {
-    let mut at = 0;
-    while at < input.len() {
-        let rest = &input[at..];
-        let length = lines::line_length(rest, rest.len());
-        if rest.len() <= length {
-            return Ok(());
-        }
-        let end = at + length;
-        run_case(rt, &input[at..end])?;
-        at = end + 1;
-    }
-    Ok(())
-}
-
 fn main(rt: HostRuntime) -> io::Result<()> {
     let mut buffer = [0u8; 65536];
     let n = streams::read_full(rt, &mut buffer)?;
-    cases(rt, &buffer[..n])
+    let mut rest = &buffer[..n];
+    while let Some(end) = rest.iter().position(|c| *c == b'\n') {
+        run_case(rt, &rest[..end])?;
+        rest = &rest[end + 1..];
+    }
+    Ok(())
 }

@@ -6,11 +6,10 @@
 // line of two numbers: the paper's number and the column, or 0 and the bytes taken.
 #![tactic(auto)]
 
-ghost use Rattle.std.specs.Prelude.{◌≤◌, length};
-
 use calendar::Quarter;
 use edits::format::Format;
 use edits::{Context, Open, Opening, Phase, Seen, Totals};
+use reason::Broken;
 use shape::Verdict;
 use std::io;
 
@@ -28,22 +27,13 @@ fn is_set(s: &[u8], column: u16) -> bool {
     number::value_in(s, column, column) == 1
 }
 
-fn quarter(year: u64, month: u64) -> Quarter {
-    Quarter { year, month }
-}
-
 fn open(s: &[u8]) -> Open {
     Open {
         fein: number::value_in(s, 14, 22),
         follow: is_set(s, 23),
         count: number::value_in(s, 24, 30),
         sum: number::value_in(s, 31, 44),
-        second: 0,
-        others: 0,
-        nearest: 0,
-        noted: false,
-        account_head: 0,
-        account_tail: 0,
+        ..Open::default()
     }
 }
 
@@ -52,9 +42,7 @@ fn totals(s: &[u8]) -> Totals {
         count: number::value_in(s, 45, 51),
         employers: number::value_in(s, 52, 58),
         sum: number::value_in(s, 59, 73),
-        second: 0,
-        others: 0,
-        notes: 0,
+        ..Totals::default()
     }
 }
 
@@ -66,7 +54,10 @@ fn context(s: &[u8]) -> Context {
             year: number::value_in(s, 2, 5),
             month: number::value_in(s, 6, 7),
         },
-        filed: quarter(number::value_in(s, 8, 11), number::value_in(s, 12, 13)),
+        filed: Quarter {
+            year: number::value_in(s, 8, 11),
+            month: number::value_in(s, 12, 13),
+        },
         open: open(s),
         all: totals(s),
         ids_full: is_set(s, 74),
@@ -87,10 +78,10 @@ fn answer(rt: HostRuntime, number: u64, place: u64) -> io::Result<()> {
 
 fn tell(rt: HostRuntime, verdict: Verdict) -> io::Result<()> {
     match verdict {
-        Verdict::Refused(column, reason) => {
-            answer(rt, reason::number_of(reason) as u64, column as u64)
+        Err(Broken(column, reason)) => {
+            answer(rt, u64::from(u8::from(reason)), u64::from(column))
         }
-        Verdict::Passed(taken, _) => answer(rt, 0, taken as u64),
+        Ok((taken, _)) => answer(rt, 0, taken as u64),
     }
 }
 
@@ -101,37 +92,13 @@ fn case(rt: HostRuntime, s: &[u8]) -> io::Result<()> {
     tell(rt, record::judge(context(s), seen(s), &s[78..]))
 }
 
-// How long a case is.
-fn case_length(s: &[u8]) -> usize
-    ensures { result ≤ length s.now }
-{
-    let mut i = 0;
-    while i < s.len() {
-        if s[i] == b'#' {
-            return i;
-        }
-        i += 1;
-    }
-    i
-}
-
-fn cases(rt: HostRuntime, input: &[u8]) -> io::Result<()> {
-    let mut at = 0;
-    while at < input.len() {
-        let rest = &input[at..];
-        let length = case_length(rest);
-        if rest.len() <= length {
-            return Ok(());
-        }
-        let end = at + length;
-        case(rt, &input[at..end])?;
-        at = end + 1;
-    }
-    Ok(())
-}
-
 fn main(rt: HostRuntime) -> io::Result<()> {
     let mut buffer = [0u8; 65536];
     let n = streams::read_full(rt, &mut buffer)?;
-    cases(rt, &buffer[..n])
+    let mut rest = &buffer[..n];
+    while let Some(end) = rest.iter().position(|c| *c == b'#') {
+        case(rt, &rest[..end])?;
+        rest = &rest[end + 1..];
+    }
+    Ok(())
 }

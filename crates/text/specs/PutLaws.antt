@@ -1,47 +1,25 @@
--- Laws: how a loop writes text into a line, what then stands in its columns, and that the others stay as they were.
-use Rattle.std.specs.Prelude.{ℕ, zero, suc, ◌+◌, ◌-◌, ◌<◌, ◌≤◌, ◌≡◌, refl, List, [], ◌∷◌, ◌++◌, ◌⊎◌, length, get_or, set, take, drop}
-use Rattle.std.proofs.Common.{sym, ap, ◌∙◌, append-nil, inl, inr, add-zero, not-suc-le-zero, add-one, arith, length-set, drop_of_length-le, drop-cons, take-suc, length-take-le, get_or-set_same, get_or-set_other}
-use Rattle.std.proofs.lemmas.List.{length-replicate, replicate-append-replicate, get_or_at, set_at}
-use Rattle.std.proofs.Math.Seq.{drop-length, take-length, append_snoc, set_out, length-sets}
-use Rattle.std.proofs.lemmas.List.Edits.{sets-eq, sets}
+-- Laws: how text is copied into a line, what then stands in its columns, and that the others stay as they were.
+use Rattle.std.specs.Prelude.{ℕ, zero, suc, ◌+◌, ◌-◌, ◌<◌, ◌≤◌, ◌≡◌, refl, List, [], ◌∷◌, ◌++◌, ◌⊎◌, length, min, map, get_or, set, take, drop}
+use Rattle.std.proofs.Common.{sym, ◌∙◌, append-nil, append_assoc, inl, inr, add-zero, not-suc-le-zero, arith, length-set, length-take-le, get_or-set_same, get_or-set_other}
+use borrow.Rule.Slice.PartMut.{put_mid}
+use Rattle.std.proofs.Math.Seq.{take-nil, drop-length, set_out, length-sets}
+use Rattle.std.proofs.lemmas.List.Edits.{sets-eq, sets, paste_all}
+use Rattle.std.proofs.lemmas.Slice.{put_mid-paste}
+use Rattle.std.proofs.lemmas.Bool.{cases_lt}
+use Rattle.std.proofs.lemmas.Bool.Decides.{nat_tests}
+use Rattle.std.specs.Char.{to_ascii_uppercase}
 use Rattle.chars.specs.Characters.{capital_of, capitals}
-use Rattle.chars.specs.CharacterLaws.{capital_at, capitals_length}
-use Rattle.text.specs.Put.{blanks, put_text}
+use Rattle.text.specs.Put.{put_text}
 
--- ---- a blank line, i columns done
-module _ (line : List ℕ) (i : ℕ) where
-  abbrev pub blank_to : List ℕ
-  blank_to = blanks i ++ drop i line
+-- ASCII's capitals are the characters as they are read.
+upper_is : (c : ℕ) → to_ascii_uppercase c ≡ capital_of c
+unfolding capital_of
+upper_is c = grind (arith, nat_tests)
 
-pub blank_more : (line : List ℕ) (i : ℕ) → i < length line → set (blank_to line i) i 0x20 ≡ blank_to line (i + 1)
-blank_more line i h =
-    rw (drop-cons line i 0 h, set_at (blanks i) _ _ 0x20 i (length-replicate i 0x20), ← replicate-append-replicate {A = ℕ} i 1 0x20)
-    (sym (append_snoc (blanks i) 0x20 (drop (suc i) line)) ∙ rw add-one)
-
-pub blank_done : (line : List ℕ) (i : ℕ) → length line ≡ i → blank_to line i ≡ blanks (length line)
-blank_done line i e = rw (← e, drop-length, append-nil)
-
--- ---- a line in capitals, i columns done
-module _ (line : List ℕ) (i : ℕ) where
-  abbrev pub capital_to : List ℕ
-  capital_to = take i (capitals line) ++ drop i line
-
-  -- The character at place i is read as it was read before.
-  same_there : i < length line → get_or (capitals capital_to) i 0 ≡ get_or (capitals line) i 0
-  same_there h =
-      let before : length (take i (capitals line)) ≡ i = length-take-le i (capitals line) (omega (arith, capitals_length line)) in
-      let here : get_or capital_to i 0 ≡ get_or line i 0 = rw (drop-cons line i 0 h) (get_or_at (take i (capitals line)) (get_or line i 0) (drop (suc i) line) 0 i before) in
-      capital_at capital_to i ∙ ap capital_of here ∙ sym (capital_at line i)
-
-pub capital_more : (line : List ℕ) (i c : ℕ) → i < length line → c ≡ get_or (capitals (capital_to line i)) i 0 → set (capital_to line i) i c ≡ capital_to line (i + 1)
-capital_more line i c h e =
-    let long : i < length (capitals line) = omega (arith, capitals_length line) in
-    let before : length (take i (capitals line)) ≡ i = length-take-le i (capitals line) (omega arith) in
-    rw (e ∙ same_there line i h, add-one i, take-suc (capitals line) i 0 long, append_snoc, drop-cons line i 0 h)
-    (set_at (take i (capitals line)) (get_or line i 0) (drop (suc i) line) (get_or (capitals line) i 0) i before)
-
-pub capital_done : (line : List ℕ) (i : ℕ) → length line ≡ i → capital_to line i ≡ capitals line
-capital_done line i e = rw (← e, drop-length, append-nil) (rw (← capitals_length line) (take-length (capitals line)))
+pub uppercased : (line : List ℕ) → map to_ascii_uppercase line ≡ capitals line
+unfolding capitals capital_of
+uppercased [] = refl
+uppercased (c ∷ line) = rw (upper_is c, uppercased line)
 
 -- A text is set one character after the other.
 pub text_sets : (line : List ℕ) (first : ℕ) (text : List ℕ) → put_text line first text ≡ sets line (first - 1) text
@@ -53,16 +31,27 @@ pub none_past : (text line : List ℕ) (at : ℕ) → length line ≤ at → set
 none_past [] line at h = refl
 none_past (c ∷ text) line at h = rw (set_out line at c h) (none_past text line (suc at) (omega arith))
 
--- ---- a loop's steps: the text from its character i on, at a place of the line
-module _ (line text : List ℕ) (at i : ℕ) where
-  pub text_past : length line ≤ at → sets line at (drop i text) ≡ line
-  text_past h = none_past (drop i text) line at h
+-- Of a text only what the line has room for is written.
+sets_room : (text line : List ℕ) (at room : ℕ) → room ≡ min (length text) (length line - at) → sets line at (take room text) ≡ sets line at text
+sets_room [] line at room fits = rw take-nil
+sets_room (c ∷ text) line at zero fits = sym (none_past (c ∷ text) line at (omega arith))
+sets_room (c ∷ text) line at (suc room) fits = sets_room text (set line at c) (suc at) room (omega (arith, length-set line at c))
 
-  pub text_done : length text ≤ i → sets line at (drop i text) ≡ line
-  text_done h = rw (drop_of_length-le text h)
+-- That is the text copied over the line, from a place within it.
+module _ (line text : List ℕ) (at place room : ℕ) (within : place ≡ min (length line) at) (fits : room ≡ min (length text) (length line - place)) where
+  same_place : sets line place text ≡ sets line at text
+  same_place = by (cases_lt (length line) at)
+    where
+      by : (length line < at) ⊎ (at ≤ length line) → sets line place text ≡ sets line at text
+      by (inl past) = none_past text line place (omega arith) ∙ sym (none_past text line at (omega arith))
+      by (inr there) = let same : place ≡ at = omega arith in rw same
 
-  pub text_more : i < length text → sets line at (drop i text) ≡ sets (set line at (get_or text i 0)) (at + 1) (drop (i + 1) text)
-  text_more h = rw (drop-cons text i 0 h, add-one, add-one)
+  pub text_copied : put_mid place room line (take room text) ≡ sets line at text
+  text_copied =
+      let taken : length (take room text) ≡ room = length-take-le room text (omega arith) in
+      let copied : sets line place (take room text) ≡ take place line ++ (take room text ++ drop (place + room) line) = rw (taken, append_assoc) at (sets-eq (take room text) line place (omega arith)) in
+      put_mid-paste place room line (take room text) (take room text) room refl refl (sym taken) ∙ paste_all line place (take room text) room (sym taken)
+      ∙ sym copied ∙ sets_room text line place room fits ∙ same_place
 
 -- A text that is as long as the line takes its place.
 pub put_all : (line text : List ℕ) → length text ≡ length line → put_text line 1 text ≡ text

@@ -1,7 +1,8 @@
 -- Laws: what later layers cite of text, of patterns and of addresses.
-use Rattle.std.specs.Prelude.{ℕ, ◌+◌, ◌-◌, ◌<◌, ◌≤◌, zero, suc, ◌≡◌, refl, Bool, true, false, not, ◌||◌, List, [], ◌∷◌, eqb, length, get_or, drop, if◌then◌else◌}
+use Rattle.std.specs.Prelude.{ℕ, ◌+◌, ◌-◌, ◌<◌, ◌≤◌, zero, suc, ◌≡◌, refl, Bool, true, false, not, ◌||◌, List, [], ◌∷◌, eqb, length, get_or, drop, if◌then◌else◌, Option, Some, None}
+use Rattle.std.specs.List.{list_all, enumerate_from}
 use Rattle.std.proofs.Math.Path.{sym}
-use Rattle.std.proofs.Common.{ap, ap₂, ◌∙◌, add-zero, not-suc-le-zero, arith, drop_of_length-le, drop-cons, eqb-true, eq-eqb, ne_eqb}
+use Rattle.std.proofs.Common.{ap, ap₂, ◌∙◌, add-zero, not-suc-le-zero, arith, eqb-true, eq-eqb, ne_eqb}
 use Rattle.std.proofs.Math.Numerals.{add-one}
 use Rattle.std.proofs.Math.Seq.{drop-drop, get_or-drop}
 use Rattle.laws.specs.ChoiceLaws.{both_hold}
@@ -10,7 +11,7 @@ use Rattle.laws.specs.Labelled.{Labelled, fine_labelled}
 use Rattle.laws.specs.Spelling.{bytes}
 use Rattle.codes.specs.Codes.{region_of}
 use Rattle.codes.specs.declared.Region.{Region}
-use Rattle.codes.specs.declared.Region.TheVariants.{State, Province, Unknown}
+use Rattle.codes.specs.declared.Region.TheVariants.{State, Province}
 use Rattle.chars.specs.Agree.{Agree, agree_from, every_alike}
 use Rattle.chars.specs.Characters.{is_blank}
 use Rattle.chars.specs.Columns.{allowed_test, every_column, is_fine, unless}
@@ -19,24 +20,12 @@ use Rattle.chars.specs.declared.columns.Allowed.TheVariants.{Blanks}
 use Rattle.text.specs.Address.{region_in, state_test, zip_test, extension_test}
 use Rattle.text.specs.Text.{all_blank, is_indented, text_test, required_text, optional_text, is_asked, reads_as, has_pattern, entity_test}
 
--- ---- a pattern from the symbol i on
-module _ (text pattern : List ℕ) (i : ℕ) where
-  pub pattern_done : length pattern ≤ i → reads_as (drop i text) (drop i pattern) ≡ true
-  unfolding reads_as
-  pattern_done h = rw (drop_of_length-le pattern h)
-
-  module _ (h : i < length pattern) where
-    asked_here : is_asked (get_or pattern i 0) (get_or (drop i text) 0 0) ≡ is_asked (get_or pattern i 0) (get_or text i 0)
-    asked_here = rw (get_or-drop i text 0 0, add-zero i)
-
-    pub pattern_not : is_asked (get_or pattern i 0) (get_or text i 0) ≡ false → reads_as (drop i text) (drop i pattern) ≡ false
-    unfolding reads_as
-    pattern_not d = rw (drop-cons pattern i 0 h, asked_here, d)
-
-    pub pattern_more : is_asked (get_or pattern i 0) (get_or text i 0) ≡ true
-        → reads_as (drop i text) (drop i pattern) ≡ reads_as (drop (i + 1) text) (drop (i + 1) pattern)
-    unfolding reads_as
-    pattern_more d = rw (drop-cons pattern i 0 h, asked_here, d, drop-drop 1 i text, add-one i)
+-- ---- a pattern, read symbol by symbol, each with its place
+pub reads_all : (pattern text : List ℕ) (n : ℕ) → list_all (λ (p : ℕ × ℕ). is_asked p.1 (get_or text p.0 0)) (enumerate_from n pattern) ≡ reads_as (drop n text) pattern
+unfolding reads_as
+reads_all [] text n = refl
+reads_all (symbol ∷ symbols) text n =
+    rw (get_or-drop n text 0 0, add-zero n, drop-drop 1 n text, add-one n, reads_all symbols text (suc n))
 
 -- ---- a pattern in two lines that agree where it stands
 reads_alike : (pattern u v : List ℕ) → Agree u v 1 (length pattern) → reads_as u pattern ≡ reads_as v pattern
@@ -64,18 +53,18 @@ pub region_alike : (u v : List ℕ) (first : ℕ) → Agree u v first (first - 1
 region_alike u v first agree =
     ap₂ region_of (agree (first - 1) (omega arith) (omega arith)) (agree (first - 1 + 1) (omega arith) (omega arith))
 
-pub zip_alike : (region : Region) (u v : List ℕ) (first : ℕ) → Agree u v first (first - 1 + 5) → zip_test region u first ≡ zip_test region v first
+pub zip_alike : (region : Option Region) (u v : List ℕ) (first : ℕ) → Agree u v first (first - 1 + 5) → zip_test region u first ≡ zip_test region v first
 unfolding bytes
-zip_alike State u v first agree = rw (pattern_alike (bytes "ddddd") u v first agree)
-zip_alike Province u v first agree = rw (pattern_alike (bytes "ldl d") u v first agree)
-zip_alike Unknown u v first agree = refl
+zip_alike (Some State) u v first agree = rw (pattern_alike (bytes "ddddd") u v first agree)
+zip_alike (Some Province) u v first agree = rw (pattern_alike (bytes "ldl d") u v first agree)
+zip_alike None u v first agree = refl
 
-pub extension_alike : (region : Region) (u v : List ℕ) (first : ℕ) → Agree u v first (first - 1 + 5) → extension_test region u first ≡ extension_test region v first
+pub extension_alike : (region : Option Region) (u v : List ℕ) (first : ℕ) → Agree u v first (first - 1 + 5) → extension_test region u first ≡ extension_test region v first
 unfolding bytes
-extension_alike State u v first agree =
+extension_alike (Some State) u v first agree =
     rw (pattern_alike (bytes "     ") u v first agree, pattern_alike (bytes "-dddd") u v first agree)
-extension_alike Province u v first agree = rw (pattern_alike (bytes "ld   ") u v first agree)
-extension_alike Unknown u v first agree = refl
+extension_alike (Some Province) u v first agree = rw (pattern_alike (bytes "ld   ") u v first agree)
+extension_alike None u v first agree = refl
 
 -- ---- a pattern whose characters stand for themselves
 -- None of them is a small letter, so none is d or l.
@@ -202,17 +191,16 @@ module _ (line : List ℕ) (first last : ℕ) where
 pub entity_labelled : (code line : List ℕ) (first : ℕ) → Labelled 34 first first (entity_test code line first)
 entity_labelled code line first = search unless_labelled
 
-pub state_labelled : (region : Region) (first : ℕ) → Labelled 35 first first (state_test region first)
-state_labelled State first = search fine_labelled
-state_labelled Province first = search fine_labelled
-state_labelled Unknown first = unless_labelled false first 35
+pub state_labelled : (region : Option Region) (first : ℕ) → Labelled 35 first first (state_test region first)
+state_labelled (Some region) first = search fine_labelled
+state_labelled None first = unless_labelled false first 35
 
-pub zip_labelled : (region : Region) (line : List ℕ) (first : ℕ) → Labelled 36 first first (zip_test region line first)
-zip_labelled State line first = search unless_labelled
-zip_labelled Province line first = search unless_labelled
-zip_labelled Unknown line first = search fine_labelled
+pub zip_labelled : (region : Option Region) (line : List ℕ) (first : ℕ) → Labelled 36 first first (zip_test region line first)
+zip_labelled (Some State) line first = search unless_labelled
+zip_labelled (Some Province) line first = search unless_labelled
+zip_labelled None line first = search fine_labelled
 
-pub extension_labelled : (region : Region) (line : List ℕ) (first : ℕ) → Labelled 37 first first (extension_test region line first)
-extension_labelled State line first = search unless_labelled
-extension_labelled Province line first = search unless_labelled
-extension_labelled Unknown line first = search fine_labelled
+pub extension_labelled : (region : Option Region) (line : List ℕ) (first : ℕ) → Labelled 37 first first (extension_test region line first)
+extension_labelled (Some State) line first = search unless_labelled
+extension_labelled (Some Province) line first = search unless_labelled
+extension_labelled None line first = search fine_labelled

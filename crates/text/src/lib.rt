@@ -1,5 +1,5 @@
 // Fields of text.
-#![tactic(auto)]
+#![tactic(auto, using(crate::specs::TextLaws::begun_first, crate::specs::TextLaws::blank_of_none, crate::specs::TextLaws::blank_or_indented, chars::specs::CharacterLaws::capitals_drop), unfolding(crate::specs::Text::all_blank, crate::specs::Text::is_asked, crate::specs::Text::is_indented, crate::specs::Text::has_pattern))]
 
 pub mod address;
 pub mod put;
@@ -12,17 +12,13 @@ ghost use Rattle.text.specs.Text.{all_blank, is_indented, text_test, required_te
 
 use chars::columns;
 use chars::columns::Allowed;
-use reason::{Edit, Reason};
+use reason::{Broken, Edit, Reason};
 
 // Whether every column of a field is blank.
 pub fn all_blank(line: &[u8], first: u16, last: u16) -> bool
     ensures { result ≡ all_blank (capitals line.now) first last }
 {
-    let e = columns::every_column(Allowed::Blanks, line, first, last);
-    match e {
-        Edit::Passed => true,
-        Edit::Broken(_, _) => false,
-    }
+    columns::every_column(Allowed::Blanks, line, first, last).is_ok()
 }
 
 // Whether there is text from the first column on: then the field is neither all blank nor indented,
@@ -31,10 +27,7 @@ fn is_begun(line: &[u8], first: u16, last: u16) -> bool
     ensures { result ≡ not (all_blank (capitals line.now) first last || is_indented (capitals line.now) first) }
 {
     let at = chars::index_of(first);
-    if last <= at {
-        return false;
-    }
-    !chars::is_blank(chars::char_at(line, at as usize))
+    at < last && !chars::is_blank(chars::char_at(line, at as usize))
 }
 
 // Text, with what an all blank field gives.
@@ -42,66 +35,54 @@ fn text(line: &[u8], first: u16, last: u16, missing: Edit) -> Edit
     ensures { finding_of result ≡ text_test (finding_of missing) (capitals line.now) first last }
 {
     if is_begun(line, first, last) {
-        return Edit::Passed;
+        return Ok(());
     }
     if all_blank(line, first, last) {
         return missing;
     }
-    Edit::Broken(first, Reason::TextIndented)
+    Err(Broken(first, Reason::TextIndented))
 }
 
 // A text that must be there: 32 where it is all blank, 33 where it begins with a blank.
 pub fn required(line: &[u8], first: u16, last: u16) -> Edit
     ensures { finding_of result ≡ required_text (capitals line.now) first last }
 {
-    text(line, first, last, Edit::Broken(first, Reason::TextMissing))
+    text(line, first, last, Err(Broken(first, Reason::TextMissing)))
 }
 
 // A text that may be left out: 33 where it begins with a blank and is not all blank.
 pub fn optional(line: &[u8], first: u16, last: u16) -> Edit
     ensures { finding_of result ≡ optional_text (capitals line.now) first last }
 {
-    text(line, first, last, Edit::Passed)
+    text(line, first, last, Ok(()))
 }
 
 // Whether a pattern's symbol asks for the character.
 fn is_asked(symbol: u8, c: u8) -> bool
     ensures { result ≡ is_asked symbol c }
 {
-    if symbol == b'd' {
-        return chars::is_digit(c);
+    match symbol {
+        b'd' => chars::is_digit(c),
+        b'l' => chars::is_letter(c),
+        _ => c == symbol,
     }
-    if symbol == b'l' {
-        return chars::is_letter(c);
-    }
-    c == symbol
 }
 
 // The line from a column on; column 0 is read as column 1.
-fn from_column<'a>(line: &'a [u8], column: u16) -> &'a [u8]
+fn from_column(line: &[u8], column: u16) -> &[u8]
     ensures { result.now ≡ drop (column - 1) line.now }
 {
-    let at = chars::index_of(column) as usize;
-    let end = line.len();
-    if end < at {
-        return &line[end..];
-    }
-    &line[at..]
+    line.get(chars::index_of(column) as usize..).unwrap_or(&[])
 }
 
 // Whether characters read as a pattern.
 fn reads_as(text: &[u8], pattern: &[u8]) -> bool
     ensures { result ≡ reads_as (capitals text.now) pattern.now }
 {
-    let mut i: usize = 0;
-    while i < pattern.len() {
-        if is_asked(pattern[i], chars::char_at(text, i)) {
-            i += 1;
-        } else {
-            return false;
-        }
-    }
-    true
+    pattern
+        .iter()
+        .enumerate()
+        .all(|(k, symbol)| is_asked(*symbol, chars::char_at(text, k)))
 }
 
 // Whether the field that starts in a column reads as a pattern.
@@ -115,10 +96,7 @@ pub fn has_pattern(line: &[u8], first: u16, pattern: &[u8]) -> bool
 pub fn pattern_edit(pattern: &[u8], line: &[u8], first: u16, reason: Reason) -> Edit
     ensures { finding_of result ≡ unless (has_pattern (capitals line.now) first pattern.now) first (number_of reason) }
 {
-    if has_pattern(line, first, pattern) {
-        return Edit::Passed;
-    }
-    Edit::Broken(first, reason)
+    columns::unless(has_pattern(line, first, pattern), first, reason)
 }
 
 // The entity code of a format, a fixed text that is compared after folding to capitals.

@@ -5,6 +5,7 @@ use Rattle.laws.specs.Finding.{value, refused}
 use Rattle.chars.specs.CharacterLaws.{capitals_again}
 use Rattle.chars.specs.Characters.{capitals}
 use Rattle.number.specs.Numbers.{number_in}
+use Rattle.field.specs.declared.class.Field.{Field}
 use Rattle.edits.specs.FieldRow.{first_in, last_in}
 use Rattle.pfml.specs.Edits.{rows_for}
 use Rattle.pfml.specs.Kinds.{kind_of, is_known}
@@ -82,4 +83,4 @@ module _ (values texts out answer : List ℕ) (built : Built 69 values texts out
       × (field_reading 69 14 (filled_built 69 values texts out answer).out ≡ refused 173 30)
   no_account_of_E_told entry =
       let told = no_account_told 69 values texts out answer known_letters.1 built 14 account_in_E account_form entry in
-      (told.0, told.1 ∙ ap (λ (field : List ℕ). refused (first_in field) 30) account_row)
+      (told.0, told.1 ∙ ap (λ (field : Field). refused (first_in field) 30) account_row)

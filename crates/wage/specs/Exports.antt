@@ -5,6 +5,7 @@ use Rattle.reason.specs.ReasonNumbers.{Notice, notice}
 use Rattle.lines.specs.Lines.{first_line}
 use Rattle.chars.specs.Characters.{capitals}
 use Rattle.number.specs.Numbers.{number_in}
+use Rattle.field.specs.declared.class.Field.{Field}
 use Rattle.edits.specs.FieldRow.{first_in, last_in, no_row}
 use Rattle.edits.specs.Formats.{format_of}
 use Rattle.edits.specs.declared.Opening.{Opening}
@@ -138,7 +139,7 @@ filled_built letter values texts out answer = filled_record 290 (building letter
 
 -- ---- the calls that read a field
 -- Field k, counted from 0, of the record that a letter names; there is none past the last, nor for another letter.
-abbrev pub field_row : ℕ → ℕ → List ℕ
+abbrev pub field_row : ℕ → ℕ → Field
 field_row letter k = get_or (rows_for (kind_of letter)) k no_row
 
 abbrev pub field_first : ℕ → ℕ → ℕ

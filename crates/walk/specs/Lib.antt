@@ -1,5 +1,4 @@
 pub mod At
-pub mod Writes
 pub mod Carry
 pub mod Calls
 pub mod GoodLaws

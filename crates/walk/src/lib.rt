@@ -6,105 +6,39 @@ ghost use Rattle.lines.specs.Lines.{first_line};
 ghost use Rattle.tables.specs.Room.{tables as tables_of};
 ghost use Rattle.state.specs.Walks.{walk_of};
 ghost use Rattle.step.specs.Moves.{taken_in, moved_by, line_seen};
-ghost use Rattle.step.specs.Questions.{fein_asked_by, id_asked_by, looked_at, id_found};
+ghost use Rattle.step.specs.Questions.{fein_asked_by, id_asked_by, fein_found, id_found};
 ghost use Rattle.step.specs.Steps.{ids_after, list_after, out_of, open_step, line_step, end_step};
-ghost use Rattle.walk.specs.Writes.{no_writes, writes_of};
 ghost use Rattle.walk.specs.Calls.{whole_file};
 ghost use Rattle.walk.specs.LineAndRun.{lines_step, next_place};
 
 use edits::Opening;
 use state::State;
 use step::{Answer, Change, Move, Reply, line};
-use tables::{Employer, ids, list};
-
-// What is written into the employer list: the first so many entries zeroed, an entry at a place, a
-// count and cents at a place. A place past the end is none. The entry stands last, so that no place
-// after it is reckoned from its size.
-#[derive(Clone, Copy)]
-struct Writes {
-    zeroed: usize,
-    opened_at: usize,
-    closed_at: usize,
-    count: u64,
-    cents: u64,
-    entry: Employer,
-}
-
-fn no_writes(end: usize) -> Writes
-    ensures { result ≡ no_writes end }
-{
-    Writes {
-        zeroed: 0,
-        opened_at: end,
-        closed_at: end,
-        count: 0,
-        cents: 0,
-        entry: list::AT_REST,
-    }
-}
-
-// The writes of a change into a list of so many entries.
-fn writes_of(change: Change, end: usize) -> Writes
-    ensures { result ≡ writes_of change end }
-{
-    match change {
-        Change::Nothing => no_writes(end),
-        Change::Clear => Writes {
-            zeroed: end,
-            opened_at: end,
-            closed_at: end,
-            count: 0,
-            cents: 0,
-            entry: list::AT_REST,
-        },
-        Change::Opens(at, entry) => Writes {
-            zeroed: 0,
-            opened_at: at,
-            closed_at: end,
-            count: 0,
-            cents: 0,
-            entry,
-        },
-        Change::Adds(_, _) => no_writes(end),
-        Change::Closes(_, at, count, cents) => Writes {
-            zeroed: 0,
-            opened_at: end,
-            closed_at: at,
-            count,
-            cents,
-            entry: list::AT_REST,
-        },
-    }
-}
+use tables::{Employer, list};
 
 fn change_ids(ids: &mut [u32], change: Change)
     ensures { ids.new ≡ ids_after change ids.old }
 {
     match change {
-        Change::Nothing => {}
-        Change::Clear => {
-            let end = ids.len();
-            ids::zero_first(ids, end);
-        }
-        Change::Opens(_, _) => {}
-        Change::Adds(at, id) => {
-            ids::put(ids, at, id);
-        }
-        Change::Closes(used, _, _, _) => {
-            ids::zero_first(ids, used);
-        }
+        Change::Clear => ids.fill(0),
+        Change::Adds(at, id) => tables::put(ids, at, id),
+        Change::Closes(used, _, _, _) => tables::zero_first(ids, used, 0),
+        Change::Nothing | Change::Opens(_, _) => {}
     }
 }
 
-// Straight through, with no branch: all deciding is done.
 fn change_list(list: &mut [Employer], change: Change)
     ensures { list.new ≡ list_after change list.old }
 {
-    let w = writes_of(change, list.len());
-    list::zero_first(list, w.zeroed);
-    list::put(list, w.opened_at, w.entry);
-    let old = list::entry_at(list, w.closed_at);
-    list::put(list, w.closed_at, list::closed_entry(old, w.count, w.cents));
+    match change {
+        Change::Clear => list.fill(list::AT_REST),
+        Change::Opens(at, entry) => tables::put(list, at, entry),
+        Change::Closes(_, at, count, cents) => {
+            let old = list::entry_at(list, at);
+            tables::put(list, at, list::closed_entry(old, count, cents));
+        }
+        Change::Nothing | Change::Adds(_, _) => {}
+    }
 }
 
 // Opens a walk. A quarter that the paper does not allow is 70, a format that is none 73, and
@@ -118,36 +52,25 @@ pub fn open(held: Opening, ids: &mut [u32], list: &mut [Employer]) -> Answer
     m.answer
 }
 
-// What a line asks of the employer list: whether its FEIN is among those of the first so many
-// entries.
-#[derive(Clone, Copy)]
-struct Asked {
-    entries: usize,
-    fein: u64,
-}
-
-// What the line in front of the bytes asks.
-fn asked_by(st: State, bytes: &[u8]) -> Asked
-    ensures { result ≡ record { entries = looked_at (fein_asked_by st.held.format bytes.now) st.all.employers; fein = (fein_asked_by st.held.format bytes.now).number } }
-{
-    let held = st.held;
-    let format = held.format;
-    let all = st.all;
-    let asking = record::fein_asked(format, bytes);
-    Asked {
-        entries: line::looked_at(asking, all.employers as usize),
-        fein: asking.number,
-    }
-}
-
-// What the line at a place of the bytes asks. A place past the end is the end.
-fn asked_at(st: State, bytes: &[u8], at: usize) -> Asked
-    ensures { result ≡ record { entries = looked_at (fein_asked_by st.held.format (drop at bytes.now)) st.all.employers; fein = (fein_asked_by st.held.format (drop at bytes.now)).number } }
+// What the line at a place of the bytes asks of the employer list: whether this FEIN is among those
+// of its entries in use, or nothing. A place past the end is the end.
+fn asked_at(st: State, bytes: &[u8], at: usize) -> Option<u64>
+    ensures { result ≡ fein_asked_by st.held.format (drop at bytes.now) }
 {
     if at < bytes.len() {
-        return asked_by(st, &bytes[at..]);
+        return record::fein_asked(st.held.format, &bytes[at..]);
     }
-    asked_by(st, &[])
+    record::fein_asked(st.held.format, &[])
+}
+
+// Whether the FEIN that the line at a place of the bytes asks for is in the list.
+fn is_repeated(st: State, bytes: &[u8], at: usize, list: &[Employer]) -> bool
+    ensures { result ≡ fein_found (fein_asked_by st.held.format (drop at bytes.now)) st.all.employers list.entry.now }
+{
+    match asked_at(st, bytes, at) {
+        Some(fein) => list::has_fein(list, st.all.employers as usize, fein),
+        None => false,
+    }
 }
 
 // What the line at a place of the bytes answers and changes. A place past the end is the end.
@@ -164,8 +87,7 @@ fn move_at(st: State, bytes: &[u8], at: usize, ids: &[u32], list: usize, repeate
 pub fn line_at(st: State, bytes: &[u8], at: usize, ids: &mut [u32], list: &mut [Employer]) -> Answer
     ensures { out_of result (tables_of ids.new list.new) ≡ line_step (walk_of st) (first_line (drop at bytes.now)) (tables_of ids.old list.old) }
 {
-    let asked = asked_at(st, bytes, at);
-    let repeated = list::has_fein(list, asked.entries, asked.fein);
+    let repeated = is_repeated(st, bytes, at, list);
     let m = move_at(st, bytes, at, ids, list.len(), repeated);
     change_ids(ids, m.change);
     change_list(list, m.change);
@@ -218,6 +140,7 @@ fn next_place(at: usize, reply: Reply, end: usize) -> usize
 }
 
 // A whole file in one slice: opening, a call for each line, and the end call, also after a refusal.
+// How far a turn goes its line tells.
 pub fn whole(held: Opening, bytes: &[u8], ids: &mut [u32], list: &mut [Employer]) -> Answer
     ensures { out_of result (tables_of ids.new list.new) ≡ whole_file held bytes.now (tables_of ids.old list.old) }
 {

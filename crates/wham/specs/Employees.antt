@@ -10,6 +10,7 @@ use Rattle.edits.specs.Own.{own}
 use Rattle.wham_fields.specs.Fields.{identity_of_s, last_name_of_s, first_name_of_s, initial_of_s, original_of_s, correct_of_s}
 use Rattle.wham.specs.Kinds.{landmarks_of}
 use Rattle.wham.specs.declared.kind.Kind.TheVariants.{Employee}
+use Rattle.field.specs.declared.class.Field.{Field}
 
 -- "2-10 (identity number), 11-30, 31-42, 43 (names, the initial among them), 191-202, 203-214 (every money field of S)"
 abbrev pub is_personal : ℕ → Bool
@@ -20,7 +21,7 @@ is_personal column =
 abbrev pub own_in : List ℕ → Class → ℕ → ℕ → List Edit
 own_in text class first last = own (landmarks_of Employee) (bytes "WHAM") class text first last
 
-abbrev own_at : List ℕ → Class → List ℕ → List Edit
+abbrev own_at : List ℕ → Class → Field → List Edit
 own_at text class field = own_in text class (first_in field) (last_in field)
 
 abbrev pub personal_edits : List ℕ → List Edit

@@ -15,7 +15,6 @@ use Rattle.edits.specs.FieldEdits.{field_edits}
 use Rattle.edits.specs.FieldEditLaws.{no_fields}
 use Rattle.edits.specs.Looks.{holds_from}
 use Rattle.edits.specs.LooksLaws.{next_alike, next_shown, rows_in_contexts}
-use Rattle.edits.specs.RuleNumbers.{rule_list, rule_of}
 use Rattle.edits.specs.declared.Context.{Context}
 use Rattle.edits.specs.declared.FurtherRule.TheVariants.{AccountOfE}
 use Rattle.edits.specs.declared.Rule.TheVariants.{Nothing, YearOfA, PeriodOfA, More as MoreRules}
@@ -88,7 +87,7 @@ module _ (edition : Edition) (here here' : Context) (same : without_sums here �
   -- ---- an R record
   deposit_alike : (seen : Seen) (text : List ℕ)
       → first_broken (text_edits edition here seen text Deposit) ≡ first_broken (text_edits edition here' seen text Deposit)
-  unfolding fields_of_r rules_of_r rule_of rule_list
+  unfolding fields_of_r rules_of_r
   deposit_alike seen text =
       let fields = field_edits (around here seen Deposit) text fields_of_r rules_of_r in
       let fields' = field_edits (around here' seen Deposit) text fields_of_r rules_of_r in

@@ -7,13 +7,11 @@ use Rattle.laws.specs.Spelling.{bytes}
 use Rattle.laws.specs.Table.{every}
 use Rattle.number.specs.LetterLaws.{letters_alike}
 use Rattle.number.specs.NumberLaws.{value_alike}
-use Rattle.field.specs.Classes.{class_of, classes}
 use Rattle.edits.specs.Edit.{Edit}
 use Rattle.edits.specs.Looks.{holds_from, row_held}
 use Rattle.edits.specs.LooksLaws.{SameIn, agree, rows_alike}
 use Rattle.edits.specs.RowTests.{tiles, ignored_in}
 use Rattle.edits.specs.RowTestLaws.{ignored_within}
-use Rattle.edits.specs.RuleNumbers.{rule_list, rule_of}
 use Rattle.edits.specs.declared.Context.{Context}
 use Rattle.edits.specs.declared.Seen.{Seen}
 use Rattle.shape.specs.Twins.{Alike, Permits}
@@ -28,11 +26,13 @@ use Rattle.wham.specs.Kinds.{kind_of, kind_on, landmarks_of}
 use Rattle.wham.specs.Says.{said_by, says}
 use Rattle.wham.specs.declared.kind.Kind.{Kind}
 use Rattle.wham.specs.declared.kind.Kind.TheVariants.{Transmitter, Employer, Employee, Deposit, Total, Final, Unknown}
+use Rattle.field.specs.declared.class.Field.{Field}
+use Rattle.edits.specs.FieldRow.{no_row}
 
 -- No edit of a field looks at an ignored column, by one computed test for each record.
 looks_elsewhere : (edition : Edition) (kind : Kind)
-    → T (every (row_held (shown_by (ignores kind)) (landmarks_of kind) (bytes "WHAM") (rules_for edition kind)) [] 0 (rows_for kind))
-unfolding ignored_in holds_from bytes class_of classes rule_of rule_list fields_of_a rules_of_a fields_of_e rules_of_e fields_of_s rules_of_s fields_of_r rules_of_r fields_of_t rules_of_t fields_of_f rules_of_f
+    → T (every (row_held (shown_by (ignores kind)) (landmarks_of kind) (bytes "WHAM") (rules_for edition kind)) no_row 0 (rows_for kind))
+unfolding ignored_in holds_from bytes fields_of_a rules_of_a fields_of_e rules_of_e fields_of_s rules_of_s fields_of_r rules_of_r fields_of_t rules_of_t fields_of_f rules_of_f
 looks_elsewhere Of2024 Transmitter = tt
 looks_elsewhere Of2024 Employer = tt
 looks_elsewhere Of2024 Employee = tt
@@ -104,7 +104,7 @@ none_ignored column = refl
 pub ignored_in_text : (kind : Kind) (column : ℕ) → ignores kind column ≡ true → column ≤ 275
 ignored_in_text kind column e = elim (records_tile kind) [
   | inl tile ↦ ignored_within 275 1 (rows_for kind) column tile e
-  | inr none ↦ absurd (false≢true (sym (ap (λ (rows : List (List ℕ)). ignored_in rows column) none ∙ none_ignored column) ∙ e))
+  | inr none ↦ absurd (false≢true (sym (ap (λ (rows : List Field). ignored_in rows column) none ∙ none_ignored column) ∙ e))
 ]
 
 pub ignored_alike : (u v : List ℕ) → Alike (ignores (kind_on u)) u v → Permits (ignores (kind_on u)) u → Permits (ignores (kind_on u)) v

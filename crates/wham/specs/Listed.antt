@@ -6,23 +6,17 @@ use Rattle.std.proofs.Math.Path.{ap}
 use Rattle.std.proofs.Common.{◌∙◌}
 use Rattle.lines.specs.Lines.{Line}
 use Rattle.chars.specs.Characters.{capitals}
-use Rattle.field.specs.ClassLaws.{class_again}
-use Rattle.field.specs.declared.class.Class.TheVariants.{Ignored, RecordLetter, Numeric, Flag, Period, RequiredText, OptionalText, EntityCode, StateCode, ZipCode, ZipExtension, More}
-use Rattle.field.specs.declared.class.Further.TheVariants.{SocialSecurity, MaineCode, Licence, Difference}
 use Rattle.wham_fields.specs.Fields.{fields_of_a, fields_of_e, fields_of_s, fields_of_r, fields_of_t, fields_of_f}
 use Rattle.wham_fields.specs.FieldRules.{rules_of_a, rules_of_e, rules_of_s, rules_of_r, rules_of_t, rules_of_f}
 use Rattle.wham_fields.specs.declared.Edition.{Edition}
 use Rattle.wham_fields.specs.declared.Edition.TheVariants.{Of2024}
 use Rattle.edits.specs.Edit.{Edit}
 use Rattle.edits.specs.Numbering.{numbers_of, never_falls}
-use Rattle.edits.specs.RuleNumbers.{Around}
-use Rattle.edits.specs.FieldLaws.{rule_again}
+use Rattle.edits.specs.declared.Around.{Around}
 use Rattle.edits.specs.FieldEdits.{field_edits}
 use Rattle.edits.specs.FieldEditLaws.{none_listed, fields_cons}
 use Rattle.edits.specs.declared.Context.{Context}
 use Rattle.edits.specs.declared.Seen.{Seen}
-use Rattle.edits.specs.declared.FurtherRule.TheVariants.{YearHeld, QuarterOfE, ListRoom, AccountOfE, QuarterEnd, SecondOfS}
-use Rattle.edits.specs.declared.Rule.TheVariants.{Nothing, YearOfA, PeriodOfA, CountOfS, WagesOfS, FileCountOfS, FileCountOfE, FileWagesOfS, More as MoreRules}
 use Rattle.shape.specs.Shape.{line_edits_by}
 use Rattle.wham.specs.Kinds.{kind_on}
 use Rattle.wham.specs.ListedNumbers.{numbers_for, numbers_of_head, numbers_of_text, numbers_of_line}
@@ -37,22 +31,22 @@ listed_head edition here text kind = refl
 module _ (a : Around) (text : List ℕ) where
   pub listed_fields : (edition : Edition) (kind : Kind) → numbers_of (field_edits a text (rows_for kind) (rules_for edition kind)) ≡ numbers_for edition kind
   unfolding fields_of_a rules_of_a fields_of_e rules_of_e fields_of_s rules_of_s fields_of_r rules_of_r fields_of_t rules_of_t fields_of_f rules_of_f
-  listed_fields Of2024 Transmitter = simp (fields_cons, none_listed, class_again RecordLetter, class_again Numeric, class_again EntityCode, class_again Ignored, class_again RequiredText, class_again StateCode, class_again ZipCode, class_again ZipExtension, class_again OptionalText, rule_again Nothing, rule_again (MoreRules YearHeld))
-  listed_fields Of2024 Employer = simp (fields_cons, none_listed, class_again RecordLetter, class_again Numeric, class_again EntityCode, class_again Ignored, class_again RequiredText, class_again StateCode, class_again ZipCode, class_again ZipExtension, class_again Period, class_again Flag, class_again (More MaineCode), class_again (More Licence), rule_again Nothing, rule_again YearOfA, rule_again (MoreRules ListRoom), rule_again (MoreRules QuarterOfE))
-  listed_fields Of2024 Employee = simp (fields_cons, none_listed, class_again RecordLetter, class_again Numeric, class_again EntityCode, class_again Ignored, class_again RequiredText, class_again Period, class_again (More SocialSecurity), class_again (More MaineCode), rule_again Nothing, rule_again PeriodOfA, rule_again YearOfA, rule_again (MoreRules AccountOfE))
-  listed_fields Of2024 Deposit = simp (fields_cons, none_listed, class_again RecordLetter, class_again Numeric, class_again Ignored, rule_again Nothing, rule_again (MoreRules QuarterEnd))
-  listed_fields Of2024 Total = simp (fields_cons, none_listed, class_again RecordLetter, class_again Numeric, class_again EntityCode, class_again Ignored, class_again (More Difference), rule_again Nothing, rule_again CountOfS, rule_again WagesOfS, rule_again (MoreRules SecondOfS))
-  listed_fields Of2024 Final = simp (fields_cons, none_listed, class_again RecordLetter, class_again Numeric, class_again EntityCode, class_again Ignored, rule_again Nothing, rule_again FileCountOfS, rule_again FileCountOfE, rule_again FileWagesOfS)
+  listed_fields Of2024 Transmitter = simp (fields_cons, none_listed)
+  listed_fields Of2024 Employer = simp (fields_cons, none_listed)
+  listed_fields Of2024 Employee = simp (fields_cons, none_listed)
+  listed_fields Of2024 Deposit = simp (fields_cons, none_listed)
+  listed_fields Of2024 Total = simp (fields_cons, none_listed)
+  listed_fields Of2024 Final = simp (fields_cons, none_listed)
   listed_fields Of2024 Unknown = ap numbers_of (none_listed a text [])
 
   pub in_order : (edition : Edition) (kind : Kind) → never_falls (field_edits a text (rows_for kind) (rules_for edition kind)) ≡ true
   unfolding fields_of_a rules_of_a fields_of_e rules_of_e fields_of_s rules_of_s fields_of_r rules_of_r fields_of_t rules_of_t fields_of_f rules_of_f
-  in_order Of2024 Transmitter = simp (fields_cons, none_listed, class_again RecordLetter, class_again Numeric, class_again EntityCode, class_again Ignored, class_again RequiredText, class_again StateCode, class_again ZipCode, class_again ZipExtension, class_again OptionalText, rule_again Nothing, rule_again (MoreRules YearHeld))
-  in_order Of2024 Employer = simp (fields_cons, none_listed, class_again RecordLetter, class_again Numeric, class_again EntityCode, class_again Ignored, class_again RequiredText, class_again StateCode, class_again ZipCode, class_again ZipExtension, class_again Period, class_again Flag, class_again (More MaineCode), class_again (More Licence), rule_again Nothing, rule_again YearOfA, rule_again (MoreRules ListRoom), rule_again (MoreRules QuarterOfE))
-  in_order Of2024 Employee = simp (fields_cons, none_listed, class_again RecordLetter, class_again Numeric, class_again EntityCode, class_again Ignored, class_again RequiredText, class_again Period, class_again (More SocialSecurity), class_again (More MaineCode), rule_again Nothing, rule_again PeriodOfA, rule_again YearOfA, rule_again (MoreRules AccountOfE))
-  in_order Of2024 Deposit = simp (fields_cons, none_listed, class_again RecordLetter, class_again Numeric, class_again Ignored, rule_again Nothing, rule_again (MoreRules QuarterEnd))
-  in_order Of2024 Total = simp (fields_cons, none_listed, class_again RecordLetter, class_again Numeric, class_again EntityCode, class_again Ignored, class_again (More Difference), rule_again Nothing, rule_again CountOfS, rule_again WagesOfS, rule_again (MoreRules SecondOfS))
-  in_order Of2024 Final = simp (fields_cons, none_listed, class_again RecordLetter, class_again Numeric, class_again EntityCode, class_again Ignored, rule_again Nothing, rule_again FileCountOfS, rule_again FileCountOfE, rule_again FileWagesOfS)
+  in_order Of2024 Transmitter = simp (fields_cons, none_listed)
+  in_order Of2024 Employer = simp (fields_cons, none_listed)
+  in_order Of2024 Employee = simp (fields_cons, none_listed)
+  in_order Of2024 Deposit = simp (fields_cons, none_listed)
+  in_order Of2024 Total = simp (fields_cons, none_listed)
+  in_order Of2024 Final = simp (fields_cons, none_listed)
   in_order Of2024 Unknown = ap never_falls (none_listed a text [])
 
 -- The same of a whole text and of a line, by the record on it.

@@ -17,7 +17,7 @@ use Rattle.wham_fields.specs.Fields.{fields_of_a, fields_of_e}
 use Rattle.wham_fields.specs.FieldRules.{rules_of_a, rules_of_e}
 use Rattle.edits.specs.EditLaws.{all_fine, all_append, not_broken}
 use Rattle.edits.specs.Edit.{AllFine}
-use Rattle.edits.specs.RuleNumbers.{Around, rule_number}
+use Rattle.edits.specs.declared.Around.{Around}
 use Rattle.edits.specs.Formats.{quarter_held}
 use Rattle.edits.specs.FieldEditLaws.{at_row}
 use Rattle.edits.specs.FieldEdits.{field_edits}
@@ -43,6 +43,7 @@ use Rattle.wham.specs.PlaceTables.{place_test, place_parts}
 use Rattle.wham.specs.Says.{said_by}
 use Rattle.wham.specs.declared.kind.Kind.{Kind}
 use Rattle.wham.specs.declared.kind.Kind.TheVariants.{Transmitter, Employer, Employee, Deposit, Total, Final, Unknown}
+use Rattle.edits.specs.declared.Rule.TheVariants.{Nothing}
 
 -- The sizes of what a record says.
 pub bounded_by : (edition : Edition) (kind : Kind) (text : List ℕ) → Bounded (wham_shape edition) (said_by kind text)
@@ -102,7 +103,7 @@ place_of_F edition AfterT follow e = inl refl
 place_of_F edition AfterF follow e = absurd (not_broken _ _ (sym e))
 
 -- ---- the fields
-year_of_A : (get_or fields_of_a 1 no_row ≡ row Numeric 2 5) × (get_or rules_of_a 1 0 ≡ rule_number (More YearHeld)) × (length fields_of_a ≡ 16)
+year_of_A : (get_or fields_of_a 1 no_row ≡ row Numeric 2 5) × (get_or rules_of_a 1 Nothing ≡ More YearHeld) × (length fields_of_a ≡ 16)
 unfolding fields_of_a rules_of_a
 year_of_A = (refl, refl, refl)
 
@@ -110,15 +111,15 @@ fields_of_E : length fields_of_e ≡ 24
 unfolding fields_of_e
 fields_of_E = refl
 
-year_of_E : (edition : Edition) → (get_or fields_of_e 1 no_row ≡ row Numeric 2 5) × (get_or (rules_of_e edition) 1 0 ≡ rule_number YearOfA)
+year_of_E : (edition : Edition) → (get_or fields_of_e 1 no_row ≡ row Numeric 2 5) × (get_or (rules_of_e edition) 1 Nothing ≡ YearOfA)
 unfolding fields_of_e rules_of_e
 year_of_E Of2024 = (refl, refl)
 
-fein_of_E : (edition : Edition) → (get_or fields_of_e 2 no_row ≡ row Numeric 6 14) × (get_or (rules_of_e edition) 2 0 ≡ rule_number (More ListRoom))
+fein_of_E : (edition : Edition) → (get_or fields_of_e 2 no_row ≡ row Numeric 6 14) × (get_or (rules_of_e edition) 2 Nothing ≡ More ListRoom)
 unfolding fields_of_e rules_of_e
 fein_of_E Of2024 = (refl, refl)
 
-period_of_E : (edition : Edition) → (get_or fields_of_e 15 no_row ≡ row Period 188 189) × (get_or (rules_of_e edition) 15 0 ≡ rule_number (More QuarterOfE))
+period_of_E : (edition : Edition) → (get_or fields_of_e 15 no_row ≡ row Period 188 189) × (get_or (rules_of_e edition) 15 Nothing ≡ More QuarterOfE)
 unfolding fields_of_e rules_of_e
 period_of_E Of2024 = (refl, refl)
 

@@ -1,5 +1,5 @@
 -- Definitions: what a record that breaks no edit says to the walk.
-use Rattle.std.specs.Prelude.{ℕ, ◌+◌, true, false, List, eqb}
+use Rattle.std.specs.Prelude.{ℕ, ◌+◌, false, List, Some, eqb}
 use Rattle.number.specs.Letters.{letters_in}
 use Rattle.edits.specs.FieldRow.{first_in, last_in, value_at}
 use Rattle.wham_fields.specs.Fields.{year_of_a, year_of_e, fein_of_e, period_of_e, follow_of_e, account_of_e, original_of_s, correct_of_s}
@@ -25,9 +25,7 @@ said_by Employer text =
       cease_date = 0;
       account_head = letters_in text (first_in account_of_e) (first_in account_of_e + 5);
       account_tail = letters_in text (first_in account_of_e + 6) (last_in account_of_e);
-      files = true;
-      year = value_at text year_of_e;
-      month = value_at text period_of_e;
+      files = Some (record { year = value_at text year_of_e; month = value_at text period_of_e });
     })
 said_by Employee text = OfS (record { id = 0; wages = value_at text correct_of_s; second = value_at text original_of_s })
 said_by Deposit text = OfNote notes.Deposit

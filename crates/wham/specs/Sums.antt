@@ -11,23 +11,19 @@ use Rattle.chars.specs.Columns.{every_column}
 use Rattle.chars.specs.declared.columns.Allowed.TheVariants.{Permitted, Digits}
 use Rattle.number.specs.Numbers.{number_in, value_in}
 use Rattle.text.specs.Text.{entity_test}
-use Rattle.field.specs.ClassLaws.{class_again}
 use Rattle.field.specs.declared.class.Class.TheVariants.{Ignored, RecordLetter, Numeric, EntityCode, More as MoreClasses}
 use Rattle.field.specs.declared.class.Further.TheVariants.{Difference}
 use Rattle.edits.specs.Edit.{Edit, at_first, rule, first_broken, AllFine}
 use Rattle.edits.specs.EditLaws.{all_fine, all_append, first_cons, first_one, first_append}
-use Rattle.edits.specs.FieldLaws.{rule_again}
 use Rattle.edits.specs.FieldEdits.{field_edits}
 use Rattle.edits.specs.FieldEditLaws.{none_listed, fields_cons}
 use Rattle.edits.specs.FieldRow.{row}
 use Rattle.edits.specs.Further.{is_negative, digits_from, is_due}
 use Rattle.edits.specs.Own.{digits_edit}
 use Rattle.edits.specs.declared.Context.{Context}
-use Rattle.edits.specs.declared.FurtherRule.TheVariants.{SecondOfS}
 use Rattle.edits.specs.declared.Open.{Open}
 use Rattle.edits.specs.declared.Phase.{Phase}
 use Rattle.edits.specs.declared.Phase.TheVariants.{EOpen}
-use Rattle.edits.specs.declared.Rule.TheVariants.{Nothing, CountOfS, WagesOfS, FileCountOfS, FileCountOfE, FileWagesOfS, More}
 use Rattle.edits.specs.declared.Seen.{Seen}
 use Rattle.edits.specs.declared.Totals.{Totals}
 use Rattle.shape.specs.Fits.{EndsE}
@@ -90,17 +86,11 @@ rows_of_F = refl
 module _ (here : Context) (seen : Seen) (text : List ℕ) where
   pub edits_of_T : (edition : Edition) → field_edits (around here seen Total) text fields_of_t (rules_of_t edition) ≡ edits_of_t edition here.open text
   unfolding rules_of_t
-  edits_of_T Of2024 =
-      rw rows_of_T
-      (simp (fields_cons, none_listed, class_again RecordLetter, class_again Numeric, class_again EntityCode, class_again Ignored, class_again (MoreClasses Difference))
-      (simp (rule_again Nothing, rule_again CountOfS, rule_again (More SecondOfS), rule_again WagesOfS)))
+  edits_of_T Of2024 = rw rows_of_T (simp (fields_cons, none_listed))
 
   pub edits_of_F : field_edits (around here seen Final) text fields_of_f rules_of_f ≡ edits_of_f here.all text
   unfolding rules_of_f
-  edits_of_F =
-      rw rows_of_F
-      (simp (fields_cons, none_listed, class_again RecordLetter, class_again Numeric, class_again EntityCode, class_again Ignored)
-      (simp (rule_again Nothing, rule_again FileCountOfS, rule_again FileCountOfE, rule_again FileWagesOfS)))
+  edits_of_F = rw rows_of_F (simp (fields_cons, none_listed))
 
 -- ---- the place: T under an E; F right after a T, or under an E that says that no S record follows
 module _ (edition : Edition) (here : Context) where

@@ -25,32 +25,21 @@ pub fn most_lines(edition: Edition) -> u32
 fn is_above(count: u64, sum: u64) -> bool
     ensures { result ≡ is_above count sum }
 {
-    if count < 18446745 {
-        return count * MOST_CENTS < sum;
-    }
-    false
+    count < 18446745 && count * MOST_CENTS < sum
 }
 
 // Either second sum.
 pub fn second_unfit(is_open: bool, all: Totals, e: Open) -> bool
     ensures { result ≡ second_unfit is_open all e }
 {
-    if is_above(all.count, all.second) {
-        return true;
-    }
-    if is_open {
-        return is_above(e.count, e.second);
-    }
-    false
+    is_above(all.count, all.second) || is_open && is_above(e.count, e.second)
 }
 
 fn no_quarter(held: Opening, filed: Quarter) -> bool
     ensures { result ≡ no_quarter held filed }
 {
-    if calendar::is_quarter_month(filed.month) {
-        return calendar::is_after(filed, format::quarter_held(held));
-    }
-    true
+    !calendar::is_quarter_month(filed.month)
+        || calendar::is_after(filed, format::quarter_held(held))
 }
 
 // Once A is read its year is not after the last closed quarter's; once an E is read its quarter is not.
@@ -60,30 +49,15 @@ pub fn quarter_unfit(phase: Phase, held: Opening, filed: Quarter) -> bool
     match phase {
         Phase::BeforeA => false,
         Phase::AfterA => held.year < filed.year,
-        Phase::EOpen => no_quarter(held, filed),
-        Phase::AfterT => no_quarter(held, filed),
-        Phase::AfterF => no_quarter(held, filed),
+        Phase::EOpen | Phase::AfterT | Phase::AfterF => no_quarter(held, filed),
     }
-}
-
-fn is_from_to(n: u8, first: u8, last: u8) -> bool
-    ensures { result ≡ is_from_to first last n }
-{
-    if n < first {
-        return false;
-    }
-    n <= last
 }
 
 // Whether a number is one that the refusal of an edit leaves in the state, in edition 2024.
 fn is_left_2024(n: u8) -> bool
     ensures { result ≡ is_left Edition.Of2024 n }
 {
-    let of_lines = is_from_to(n, 1, 8) | is_from_to(n, 10, 20);
-    let of_texts = (n == 30) | is_from_to(n, 32, 37);
-    let of_numbers = is_from_to(n, 39, 43) | is_from_to(n, 46, 47) | (n == 52);
-    let of_totals = is_from_to(n, 55, 61) | (n == 63) | (n == 91);
-    of_lines | of_texts | of_numbers | of_totals
+    matches!(n, 1..=8 | 10..=20 | 30 | 32..=37 | 39..=43 | 46..=47 | 52 | 55..=61 | 63 | 91)
 }
 
 // The same in each edition.

@@ -1,4 +1,6 @@
 // The six records, by their letters.
+#![tactic(auto, unfolding(crate::specs::Kinds::kind_of))]
+
 ghost use Rattle.std.specs.Prelude.{◌≡◌};
 ghost use Rattle.wham.specs.Kinds.{kind_of, is_known, with_state, processor_of_e, account_of_s, difference_of_t, landmarks_of};
 
@@ -7,7 +9,7 @@ use wham_fields::{
     ACCOUNT_OF_S, AMENDED_OF_T, PAYMENTS_OF_T, PROCESSOR_OF_E, STATE_OF_A, STATE_OF_E,
 };
 
-#[derive(Clone, Copy)]
+#[derive(Clone, Copy, PartialEq, Eq)]
 pub enum Kind {
     // A
     Transmitter,
@@ -21,7 +23,7 @@ pub enum Kind {
     Total,
     // F
     Final,
-    // Another letter.
+    // Another letter. It is a variant and no `None`, since the place table has a row for it.
     Unknown,
 }
 
@@ -44,15 +46,7 @@ pub fn kind_of(letter: u8) -> Kind
 pub fn is_known(kind: Kind) -> bool
     ensures { result ≡ is_known kind }
 {
-    match kind {
-        Kind::Transmitter => true,
-        Kind::Employer => true,
-        Kind::Employee => true,
-        Kind::Deposit => true,
-        Kind::Total => true,
-        Kind::Final => true,
-        Kind::Unknown => false,
-    }
+    kind != Kind::Unknown
 }
 
 // A record whose state is in this column, and no other column is looked at but these.
@@ -75,15 +69,9 @@ fn processor_of_e() -> FurtherLandmarks
     ensures { result ≡ processor_of_e }
 {
     FurtherLandmarks {
-        licensed_first: PROCESSOR_OF_E[1],
-        licensed_last: PROCESSOR_OF_E[2],
-        whole_first: 0,
-        whole_last: 0,
-        part_first: 0,
-        part_last: 0,
-        head_last: 0,
-        tail_first: 0,
-        tail_last: 0,
+        licensed_first: PROCESSOR_OF_E.first,
+        licensed_last: PROCESSOR_OF_E.last,
+        ..NONE_FURTHER
     }
 }
 
@@ -92,15 +80,10 @@ fn account_of_s() -> FurtherLandmarks
     ensures { result ≡ account_of_s }
 {
     FurtherLandmarks {
-        licensed_first: 0,
-        licensed_last: 0,
-        whole_first: 0,
-        whole_last: 0,
-        part_first: 0,
-        part_last: 0,
-        head_last: ACCOUNT_OF_S[1] + 5,
-        tail_first: ACCOUNT_OF_S[1] + 6,
-        tail_last: ACCOUNT_OF_S[2],
+        head_last: ACCOUNT_OF_S.first + 5,
+        tail_first: ACCOUNT_OF_S.first + 6,
+        tail_last: ACCOUNT_OF_S.last,
+        ..NONE_FURTHER
     }
 }
 
@@ -109,15 +92,11 @@ fn difference_of_t() -> FurtherLandmarks
     ensures { result ≡ difference_of_t }
 {
     FurtherLandmarks {
-        licensed_first: 0,
-        licensed_last: 0,
-        whole_first: AMENDED_OF_T[1],
-        whole_last: AMENDED_OF_T[2],
-        part_first: PAYMENTS_OF_T[1],
-        part_last: PAYMENTS_OF_T[2],
-        head_last: 0,
-        tail_first: 0,
-        tail_last: 0,
+        whole_first: AMENDED_OF_T.first,
+        whole_last: AMENDED_OF_T.last,
+        part_first: PAYMENTS_OF_T.first,
+        part_last: PAYMENTS_OF_T.last,
+        ..NONE_FURTHER
     }
 }
 
@@ -126,12 +105,10 @@ pub fn landmarks_of(kind: Kind) -> Landmarks
     ensures { result ≡ landmarks_of kind }
 {
     match kind {
-        Kind::Transmitter => with_state(STATE_OF_A[1], NONE_FURTHER),
-        Kind::Employer => with_state(STATE_OF_E[1], processor_of_e()),
+        Kind::Transmitter => with_state(STATE_OF_A.first, NONE_FURTHER),
+        Kind::Employer => with_state(STATE_OF_E.first, processor_of_e()),
         Kind::Employee => with_state(0, account_of_s()),
-        Kind::Deposit => with_state(0, NONE_FURTHER),
         Kind::Total => with_state(0, difference_of_t()),
-        Kind::Final => with_state(0, NONE_FURTHER),
-        Kind::Unknown => with_state(0, NONE_FURTHER),
+        _ => with_state(0, NONE_FURTHER),
     }
 }

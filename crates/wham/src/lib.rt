@@ -7,23 +7,19 @@ pub mod kind;
 pub mod place;
 pub mod said;
 
-ghost use Rattle.std.specs.Prelude.{◌≡◌, ◌-◌, ◌≤◌, take, drop};
-ghost use Rattle.laws.specs.Spelling.{bytes};
-ghost use Rattle.reason.specs.ReasonNumbers.{finding_of};
-ghost use Rattle.chars.specs.Characters.{capitals};
-ghost use Rattle.edits.specs.Edit.{first_broken};
-ghost use Rattle.edits.specs.Tests.{fields_test};
+ghost use Rattle.std.specs.Prelude.{◌≡◌, ◌≤◌, refl};
 ghost use Rattle.edits.specs.FieldEdits.{field_edits};
-ghost use Rattle.wham_fields.specs.Fields.{fields as all_fields};
-ghost use Rattle.wham_fields.specs.FieldRules.{rules};
-ghost use Rattle.shape.specs.Shape.{fein_asked, id_asked};
-ghost use Rattle.wham.specs.Edits.{rows_for, rules_for, around as around_of, placed_edits, head_edits, text_edits, edits_on};
-ghost use Rattle.wham.specs.Says.{says};
+ghost use Rattle.wham.specs.Edits.{rows_for, rules_for, around as around_of, placed_edits};
+ghost use Rattle.wham.specs.Format.{wham_shape};
+ghost use Rattle.wham.specs.Kinds.{kind_of, is_known};
+ghost use Rattle.wham.specs.Says.{said_by};
+ghost use Rattle.wham.specs.TextParts.{IsPart};
 
-use edits::{Context, Landmarks, Seen, fields};
+use edits::{Around, Context, Seen, fields};
 use kind::Kind;
 use reason::Edit;
-use shape::{Asking, Said, head};
+use shape::Said;
+use shape::layout::Layout;
 use wham_fields::{
     ALL_FIELDS, Edition, FIRST_OF_A, FIRST_OF_E, FIRST_OF_F, FIRST_OF_R, FIRST_OF_S, FIRST_OF_T,
     field_rules,
@@ -32,110 +28,83 @@ use wham_fields::{
 // The taxing entity's code.
 pub const ENTITY: [u8; 4] = *b"WHAM";
 
-// The fields from number `from` up to `to`, left out.
-fn fields_from(
-    edition: Edition,
-    landmarks: Landmarks,
-    here: Context,
-    seen: Seen,
-    line: &[u8],
-    from: usize,
-    to: usize,
-) -> Edit
-    requires { (from ≤ to) × (to ≤ 78) }
-    ensures { finding_of result ≡ fields_test (record { landmarks = landmarks; code = bytes "WHAM"; here = here; seen = seen }) (capitals line.now) (take (to - from) (drop from all_fields)) (take (to - from) (drop from (rules edition))) }
+// The numbers of a record's fields in the list of all: the first, and the one after the last.
+fn part_of(kind: Kind) -> (usize, usize)
+    ensures { (result.0 ≤ result.1) × (result.1 ≤ 78) × ((edition : _) → IsPart edition kind result.0 result.1) }
 {
-    let rows = wham_fields::all_rows();
-    let rules = field_rules::all_rules(edition);
-    fields::first_broken(
-        landmarks,
-        ENTITY,
-        here,
-        seen,
-        line,
-        &rows[from..to],
-        &rules[from..to],
-    )
-}
-
-fn fields_edit(edition: Edition, kind: Kind, here: Context, seen: Seen, line: &[u8]) -> Edit
-    ensures { finding_of result ≡ first_broken (field_edits (around_of here seen kind) (capitals line.now) (rows_for kind) (rules_for edition kind)) }
-{
-    let marks = kind::landmarks_of(kind);
     match kind {
-        Kind::Transmitter => fields_from(edition, marks, here, seen, line, FIRST_OF_A, FIRST_OF_E),
-        Kind::Employer => fields_from(edition, marks, here, seen, line, FIRST_OF_E, FIRST_OF_S),
-        Kind::Employee => fields_from(edition, marks, here, seen, line, FIRST_OF_S, FIRST_OF_R),
-        Kind::Deposit => fields_from(edition, marks, here, seen, line, FIRST_OF_R, FIRST_OF_T),
-        Kind::Total => fields_from(edition, marks, here, seen, line, FIRST_OF_T, FIRST_OF_F),
-        Kind::Final => fields_from(edition, marks, here, seen, line, FIRST_OF_F, ALL_FIELDS),
-        Kind::Unknown => Edit::Passed,
+        Kind::Transmitter => (FIRST_OF_A, FIRST_OF_E),
+        Kind::Employer => (FIRST_OF_E, FIRST_OF_S),
+        Kind::Employee => (FIRST_OF_S, FIRST_OF_R),
+        Kind::Deposit => (FIRST_OF_R, FIRST_OF_T),
+        Kind::Total => (FIRST_OF_T, FIRST_OF_F),
+        Kind::Final => (FIRST_OF_F, ALL_FIELDS),
+        Kind::Unknown => (ALL_FIELDS, ALL_FIELDS),
     }
 }
 
-// Place and count of a record whose letter is known.
-fn placed_edit(edition: Edition, kind: Kind, here: Context) -> Edit
-    ensures { finding_of result ≡ first_broken (placed_edits edition here kind) }
-{
-    let open = here.open;
-    let all = here.all;
-    let phase = here.phase;
-    let e = place::place_edit(edition, phase, open.follow, kind);
-    match e {
-        Edit::Broken(_, _) => e,
-        Edit::Passed => place::count_edit(kind, all),
+// The file of an edition as the code reads it.
+#[derive(Clone, Copy)]
+pub struct Wham(pub Edition);
+
+impl Layout for Wham {
+    type Kind = Kind;
+
+    ghost LENGTH = { 275 };
+
+    const LENGTH: u16 = wham_fields::RECORD;
+
+    ghost shape = { λ layout. wham_shape layout.0 };
+
+    ghost kind_by = { kind_of };
+
+    ghost knows = { is_known };
+
+    ghost placed = { λ layout here kind. placed_edits layout.0 here kind };
+
+    ghost fields = { λ layout here seen text kind. field_edits (around_of here seen kind) text (rows_for kind) (rules_for layout.0 kind) };
+
+    ghost says_by = { said_by };
+
+    ghost edits_are = { λ layout here seen text. refl };
+
+    ghost says_are = { λ layout text. refl };
+
+    fn kind_of(self, letter: u8) -> Kind {
+        kind::kind_of(letter)
     }
-}
 
-// Characters, letter, place and count.
-fn head_edit(edition: Edition, kind: Kind, here: Context, line: &[u8]) -> Edit
-    ensures { finding_of result ≡ first_broken (head_edits edition here (capitals line.now) kind) }
-{
-    let placed = placed_edit(edition, kind, here);
-    head::head_edit(wham_fields::RECORD, kind::is_known(kind), placed, line)
-}
-
-// All edits of a record of this kind.
-fn kind_edit(edition: Edition, kind: Kind, here: Context, seen: Seen, line: &[u8]) -> Edit
-    ensures { finding_of result ≡ first_broken (text_edits edition here seen (capitals line.now) kind) }
-{
-    let e = head_edit(edition, kind, here, line);
-    match e {
-        Edit::Broken(_, _) => e,
-        Edit::Passed => fields_edit(edition, kind, here, seen, line),
+    fn is_known(self, kind: Kind) -> bool {
+        kind::is_known(kind)
     }
-}
 
-// All edits of a line of the right length.
-pub fn text_edit(edition: Edition, here: Context, seen: Seen, line: &[u8]) -> Edit
-    ensures { finding_of result ≡ first_broken (edits_on edition here seen (capitals line.now)) }
-{
-    kind_edit(
-        edition,
-        kind::kind_of(chars::char_at(line, 0)),
-        here,
-        seen,
-        line,
-    )
-}
+    fn placed_edit(self, kind: Kind, here: Context) -> Edit {
+        place::place_edit(self.0, here.phase, here.open.follow, kind)?;
+        place::count_edit(kind, here.all)
+    }
 
-// What the record on a line says.
-pub fn said_on(line: &[u8]) -> Said
-    ensures { result ≡ says (capitals line.now) }
-{
-    said::said_by(kind::kind_of(chars::char_at(line, 0)), line)
-}
+    fn fields_edit(self, kind: Kind, here: Context, seen: Seen, line: &[u8]) -> Edit {
+        let (from, to) = part_of(kind);
+        let rows = wham_fields::all_rows();
+        let rules = field_rules::all_rules(self.0);
+        let around = Around {
+            landmarks: kind::landmarks_of(kind),
+            code: ENTITY,
+            here,
+            seen,
+        };
+        fields::first_broken(&around, line, &rows[from..to], &rules[from..to])
+    }
 
-// What the record on a line asks of the employer list.
-pub fn fein_asked(line: &[u8]) -> Asking
-    ensures { result ≡ fein_asked (says (capitals line.now)) }
-{
-    said::fein_asked(kind::kind_of(chars::char_at(line, 0)), line)
-}
+    fn said_by(self, kind: Kind, line: &[u8]) -> Said {
+        said::said_by(kind, line)
+    }
 
-// What the record on a line asks of the id table.
-pub fn id_asked(line: &[u8]) -> Asking
-    ensures { result ≡ id_asked (says (capitals line.now)) }
-{
-    said::id_asked(kind::kind_of(chars::char_at(line, 0)), line)
+    fn fein_asked(self, kind: Kind, line: &[u8]) -> Option<u64> {
+        said::fein_asked(kind, line)
+    }
+
+    fn id_asked(self, kind: Kind, line: &[u8]) -> Option<u64> {
+        said::id_asked(kind, line)
+    }
 }

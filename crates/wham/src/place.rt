@@ -7,7 +7,7 @@ ghost use Rattle.wham.specs.PlaceTables.{before_a, after_a, under_one, under_zer
 
 use crate::kind::Kind;
 use edits::{Phase, Totals};
-use reason::{Edit, Reason};
+use reason::{Broken, Edit, Reason};
 use shape::head;
 use wham_fields::Edition;
 
@@ -15,13 +15,8 @@ fn before_a(kind: Kind) -> Edit
     ensures { finding_of result ≡ before_a kind }
 {
     match kind {
-        Kind::Transmitter => Edit::Passed,
-        Kind::Employer => Edit::Broken(1, Reason::BeforeA),
-        Kind::Employee => Edit::Broken(1, Reason::BeforeA),
-        Kind::Deposit => Edit::Broken(1, Reason::BeforeA),
-        Kind::Total => Edit::Broken(1, Reason::BeforeA),
-        Kind::Final => Edit::Broken(1, Reason::BeforeA),
-        Kind::Unknown => Edit::Broken(1, Reason::BeforeA),
+        Kind::Transmitter => Ok(()),
+        _ => Err(Broken(1, Reason::BeforeA)),
     }
 }
 
@@ -29,13 +24,11 @@ fn after_a(kind: Kind) -> Edit
     ensures { finding_of result ≡ after_a kind }
 {
     match kind {
-        Kind::Transmitter => Edit::Broken(1, Reason::SecondA),
-        Kind::Employer => Edit::Passed,
-        Kind::Employee => Edit::Broken(1, Reason::SWithoutE),
-        Kind::Deposit => Edit::Broken(1, Reason::SWithoutE),
-        Kind::Total => Edit::Broken(1, Reason::TWithoutE),
-        Kind::Final => Edit::Broken(1, Reason::FWithoutE),
-        Kind::Unknown => Edit::Passed,
+        Kind::Transmitter => Err(Broken(1, Reason::SecondA)),
+        Kind::Employee | Kind::Deposit => Err(Broken(1, Reason::SWithoutE)),
+        Kind::Total => Err(Broken(1, Reason::TWithoutE)),
+        Kind::Final => Err(Broken(1, Reason::FWithoutE)),
+        Kind::Employer | Kind::Unknown => Ok(()),
     }
 }
 
@@ -43,13 +36,10 @@ fn after_t(kind: Kind) -> Edit
     ensures { finding_of result ≡ after_t kind }
 {
     match kind {
-        Kind::Transmitter => Edit::Broken(1, Reason::SecondA),
-        Kind::Employer => Edit::Passed,
-        Kind::Employee => Edit::Broken(1, Reason::SWithoutE),
-        Kind::Deposit => Edit::Broken(1, Reason::SWithoutE),
-        Kind::Total => Edit::Broken(1, Reason::SecondT),
-        Kind::Final => Edit::Passed,
-        Kind::Unknown => Edit::Passed,
+        Kind::Transmitter => Err(Broken(1, Reason::SecondA)),
+        Kind::Employee | Kind::Deposit => Err(Broken(1, Reason::SWithoutE)),
+        Kind::Total => Err(Broken(1, Reason::SecondT)),
+        Kind::Employer | Kind::Final | Kind::Unknown => Ok(()),
     }
 }
 
@@ -57,13 +47,10 @@ fn after_f(kind: Kind) -> Edit
     ensures { finding_of result ≡ after_f kind }
 {
     match kind {
-        Kind::Transmitter => Edit::Broken(1, Reason::SecondA),
-        Kind::Employer => Edit::Broken(1, Reason::BehindF),
-        Kind::Employee => Edit::Broken(1, Reason::BehindF),
-        Kind::Deposit => Edit::Broken(1, Reason::BehindF),
-        Kind::Total => Edit::Broken(1, Reason::BehindF),
-        Kind::Final => Edit::Broken(1, Reason::SecondF),
-        Kind::Unknown => Edit::Passed,
+        Kind::Transmitter => Err(Broken(1, Reason::SecondA)),
+        Kind::Final => Err(Broken(1, Reason::SecondF)),
+        Kind::Unknown => Ok(()),
+        _ => Err(Broken(1, Reason::BehindF)),
     }
 }
 
@@ -72,13 +59,10 @@ fn under_one(kind: Kind) -> Edit
     ensures { finding_of result ≡ under_one kind }
 {
     match kind {
-        Kind::Transmitter => Edit::Broken(1, Reason::SecondA),
-        Kind::Employer => Edit::Broken(1, Reason::EWhileEOpen),
-        Kind::Employee => Edit::Passed,
-        Kind::Deposit => Edit::Passed,
-        Kind::Total => Edit::Passed,
-        Kind::Final => Edit::Broken(1, Reason::FWhileEOpen),
-        Kind::Unknown => Edit::Passed,
+        Kind::Transmitter => Err(Broken(1, Reason::SecondA)),
+        Kind::Employer => Err(Broken(1, Reason::EWhileEOpen)),
+        Kind::Final => Err(Broken(1, Reason::FWhileEOpen)),
+        _ => Ok(()),
     }
 }
 
@@ -87,13 +71,9 @@ fn under_zero(kind: Kind) -> Edit
     ensures { finding_of result ≡ under_zero kind }
 {
     match kind {
-        Kind::Transmitter => Edit::Broken(1, Reason::SecondA),
-        Kind::Employer => Edit::Passed,
-        Kind::Employee => Edit::Broken(1, Reason::SUnderZeroE),
-        Kind::Deposit => Edit::Passed,
-        Kind::Total => Edit::Passed,
-        Kind::Final => Edit::Passed,
-        Kind::Unknown => Edit::Passed,
+        Kind::Transmitter => Err(Broken(1, Reason::SecondA)),
+        Kind::Employee => Err(Broken(1, Reason::SUnderZeroE)),
+        _ => Ok(()),
     }
 }
 
@@ -109,6 +89,7 @@ fn under_e(edition: Edition, follow: bool, kind: Kind) -> Edit
 }
 
 // The place rules; `follow`: the open E says that S records follow.
+#[tactic(auto, using(crate::specs::PlaceTables::place_parts))]
 pub fn place_edit(edition: Edition, phase: Phase, follow: bool, kind: Kind) -> Edit
     ensures { finding_of result ≡ first_broken (place_edits edition phase follow kind) }
 {
@@ -126,12 +107,8 @@ pub fn count_edit(kind: Kind, all: Totals) -> Edit
     ensures { finding_of result ≡ (count_edit kind all.count all.others).finds }
 {
     match kind {
-        Kind::Transmitter => Edit::Passed,
-        Kind::Employer => Edit::Passed,
         Kind::Employee => head::one_more(all.count),
         Kind::Deposit => head::one_more(all.others),
-        Kind::Total => Edit::Passed,
-        Kind::Final => Edit::Passed,
-        Kind::Unknown => Edit::Passed,
+        _ => Ok(()),
     }
 }

@@ -8,7 +8,7 @@ use crate::kind::Kind;
 use calendar::Quarter;
 use edits::rows;
 use number::letters;
-use shape::{Asking, EmployeeOn, EmployerOn, Note, Said};
+use shape::{EmployeeOn, EmployerOn, Note, Said};
 use wham_fields::{
     ACCOUNT_OF_E, CORRECT_OF_S, FEIN_OF_E, FOLLOW_OF_E, ORIGINAL_OF_S, PERIOD_OF_E, YEAR_OF_A,
     YEAR_OF_E,
@@ -25,11 +25,12 @@ fn employer_on(line: &[u8]) -> Said
         amended: 0,
         final_return: 0,
         cease_date: 0,
-        account_head: letters::letters_in(line, ACCOUNT_OF_E[1], ACCOUNT_OF_E[1] + 5),
-        account_tail: letters::letters_in(line, ACCOUNT_OF_E[1] + 6, ACCOUNT_OF_E[2]),
-        files: true,
-        year: rows::value_at(line, YEAR_OF_E),
-        month: rows::value_at(line, PERIOD_OF_E),
+        account_head: letters::letters_in(line, ACCOUNT_OF_E.first, ACCOUNT_OF_E.first + 5),
+        account_tail: letters::letters_in(line, ACCOUNT_OF_E.first + 6, ACCOUNT_OF_E.last),
+        files: Some(Quarter {
+            year: rows::value_at(line, YEAR_OF_E),
+            month: rows::value_at(line, PERIOD_OF_E),
+        }),
     })
 }
 
@@ -70,34 +71,18 @@ pub fn said_by(kind: Kind, line: &[u8]) -> Said
 }
 
 // No record asks anything of the employer list: a FEIN may stand on several E records.
-pub fn fein_asked(kind: Kind, line: &[u8]) -> Asking
+pub fn fein_asked(kind: Kind, line: &[u8]) -> Option<u64>
     ensures { result ≡ fein_asked (said_by kind (capitals line.now)) }
 {
-    match kind {
-        Kind::Transmitter => shape::asks_nothing(),
-        Kind::Employer => shape::asks_nothing(),
-        Kind::Employee => shape::asks_nothing(),
-        Kind::Deposit => shape::asks_nothing(),
-        Kind::Total => shape::asks_nothing(),
-        Kind::Final => shape::asks_nothing(),
-        Kind::Unknown => shape::asks_nothing(),
-    }
+    None
 }
 
 // Of the id table an S record asks for zero, which never stands there.
-pub fn id_asked(kind: Kind, line: &[u8]) -> Asking
+pub fn id_asked(kind: Kind, line: &[u8]) -> Option<u64>
     ensures { result ≡ id_asked (said_by kind (capitals line.now)) }
 {
     match kind {
-        Kind::Transmitter => shape::asks_nothing(),
-        Kind::Employer => shape::asks_nothing(),
-        Kind::Employee => Asking {
-            asks: true,
-            number: 0,
-        },
-        Kind::Deposit => shape::asks_nothing(),
-        Kind::Total => shape::asks_nothing(),
-        Kind::Final => shape::asks_nothing(),
-        Kind::Unknown => shape::asks_nothing(),
+        Kind::Employee => Some(0),
+        _ => None,
     }
 }

@@ -1,20 +1,21 @@
 -- Laws: the rows of each record tile its columns, 1 to 275, in order, each is as wide as its class asks, and each has a rule beside it: computed tests.
 use Rattle.std.specs.Prelude.{ℕ, Bool, List, [], ◌≡◌, refl, T, length, take, drop}
 use Rattle.laws.specs.Table.{every}
-use Rattle.field.specs.Classes.{class_of, classes}
 use Rattle.edits.specs.RowTests.{tiles}
 use Rattle.edits.specs.RowTestLaws.{is_wide}
 use Rattle.wham_fields.specs.Fields.{fields_of_a, fields_of_e, fields_of_s, fields_of_r, fields_of_t, fields_of_f, records, fields}
 use Rattle.wham_fields.specs.FieldRules.{rules_of_a, rules_of_e, rules_of_s, rules_of_r, rules_of_t, rules_of_f, rules}
 use Rattle.wham_fields.specs.declared.Edition.{Edition}
 use Rattle.wham_fields.specs.declared.Edition.TheVariants.{Of2024}
+use Rattle.field.specs.declared.class.Field.{Field}
+use Rattle.edits.specs.FieldRow.{no_row}
 
 -- ---- the one edition
 pub only : (edition : Edition) → edition ≡ Of2024
 only Of2024 = refl
 
 -- ---- the columns
-abbrev pub tiles_all : ℕ → List (List ℕ) → Bool
+abbrev pub tiles_all : ℕ → List Field → Bool
 tiles_all kind rows = tiles 275 1 rows
 
 pub all_tile : T (every tiles_all [] 0 records)
@@ -22,8 +23,8 @@ unfolding tiles records fields_of_a fields_of_e fields_of_s fields_of_r fields_o
 all_tile = tt
 
 -- ---- the classes
-pub all_wide : T (every is_wide [] 0 fields)
-unfolding class_of classes fields fields_of_a fields_of_e fields_of_s fields_of_r fields_of_t fields_of_f
+pub all_wide : T (every is_wide no_row 0 fields)
+unfolding fields fields_of_a fields_of_e fields_of_s fields_of_r fields_of_t fields_of_f
 all_wide = tt
 
 -- ---- the rules

@@ -1,21 +1,22 @@
 -- Definitions: the list of fields of the amended withholding file, edition 2024: the six tables of document 001. docs/formats/wham.md has its words beside
 -- each field.
-use Rattle.std.specs.Prelude.{ℕ, List, [], ◌∷◌, ◌++◌}
+use Rattle.std.specs.Prelude.{List, [], ◌∷◌, ◌++◌}
 use Rattle.field.specs.declared.class.Class.TheVariants.{Ignored, RecordLetter, Numeric, Flag, Period, RequiredText, OptionalText, EntityCode, StateCode, ZipCode, ZipExtension, More}
 use Rattle.field.specs.declared.class.Further.TheVariants.{SocialSecurity, MaineCode, Licence, Difference}
+use Rattle.field.specs.declared.class.Field.{Field}
 use Rattle.edits.specs.FieldRow.{row}
 
 -- The tables row by row: each row has the table's location, and beside it stands what the field is. A field that rules, meaning or writers name has its
 -- row above the table.
 
 -- Transmitter (A) record, 16 fields
-abbrev pub year_of_a : List ℕ
+abbrev pub year_of_a : Field
 year_of_a = row Numeric 2 5
 
-abbrev pub state_of_a : List ℕ
+abbrev pub state_of_a : Field
 state_of_a = row StateCode 139 140
 
-unfoldable pub fields_of_a : List (List ℕ)
+unfoldable pub fields_of_a : List Field
 fields_of_a =
     row RecordLetter 1 1 ∷  -- letter A
     year_of_a ∷  -- tax year
@@ -36,28 +37,28 @@ fields_of_a =
     []
 
 -- Employer (E) record, 24 fields
-abbrev pub year_of_e : List ℕ
+abbrev pub year_of_e : Field
 year_of_e = row Numeric 2 5
 
-abbrev pub fein_of_e : List ℕ
+abbrev pub fein_of_e : Field
 fein_of_e = row Numeric 6 14
 
-abbrev pub state_of_e : List ℕ
+abbrev pub state_of_e : Field
 state_of_e = row StateCode 139 140
 
-abbrev pub period_of_e : List ℕ
+abbrev pub period_of_e : Field
 period_of_e = row Period 188 189
 
-abbrev pub follow_of_e : List ℕ
+abbrev pub follow_of_e : Field
 follow_of_e = row Flag 190 190
 
-abbrev pub processor_of_e : List ℕ
+abbrev pub processor_of_e : Field
 processor_of_e = row Numeric 209 217
 
-abbrev pub account_of_e : List ℕ
+abbrev pub account_of_e : Field
 account_of_e = row RequiredText 258 268
 
-unfoldable pub fields_of_e : List (List ℕ)
+unfoldable pub fields_of_e : List Field
 fields_of_e =
     row RecordLetter 1 1 ∷  -- letter E
     year_of_e ∷  -- tax year
@@ -86,34 +87,34 @@ fields_of_e =
     []
 
 -- Employee (S) record, 15 rows: 46-51 is read as two, month and year, as in document 01
-abbrev pub identity_of_s : List ℕ
+abbrev pub identity_of_s : Field
 identity_of_s = row (More SocialSecurity) 2 10
 
-abbrev pub last_name_of_s : List ℕ
+abbrev pub last_name_of_s : Field
 last_name_of_s = row RequiredText 11 30
 
-abbrev pub first_name_of_s : List ℕ
+abbrev pub first_name_of_s : Field
 first_name_of_s = row RequiredText 31 42
 
-abbrev pub initial_of_s : List ℕ
+abbrev pub initial_of_s : Field
 initial_of_s = row Ignored 43 43
 
-abbrev pub period_of_s : List ℕ
+abbrev pub period_of_s : Field
 period_of_s = row Period 46 47
 
-abbrev pub year_of_s : List ℕ
+abbrev pub year_of_s : Field
 year_of_s = row Numeric 48 51
 
-abbrev pub original_of_s : List ℕ
+abbrev pub original_of_s : Field
 original_of_s = row Numeric 191 202
 
-abbrev pub correct_of_s : List ℕ
+abbrev pub correct_of_s : Field
 correct_of_s = row Numeric 203 214
 
-abbrev pub account_of_s : List ℕ
+abbrev pub account_of_s : Field
 account_of_s = row RequiredText 215 225
 
-unfoldable pub fields_of_s : List (List ℕ)
+unfoldable pub fields_of_s : List Field
 fields_of_s =
     row RecordLetter 1 1 ∷  -- letter S
     identity_of_s ∷  -- social security number
@@ -133,10 +134,10 @@ fields_of_s =
     []
 
 -- R record, 5 fields
-abbrev pub quarter_of_r : List ℕ
+abbrev pub quarter_of_r : Field
 quarter_of_r = row Numeric 2 9
 
-unfoldable pub fields_of_r : List (List ℕ)
+unfoldable pub fields_of_r : List Field
 fields_of_r =
     row RecordLetter 1 1 ∷  -- letter R
     quarter_of_r ∷  -- quarter being amended
@@ -146,28 +147,28 @@ fields_of_r =
     []
 
 -- Total (T) record, 11 fields
-abbrev pub letter_of_t : List ℕ
+abbrev pub letter_of_t : Field
 letter_of_t = row RecordLetter 1 1
 
-abbrev pub count_of_t : List ℕ
+abbrev pub count_of_t : Field
 count_of_t = row Numeric 2 8
 
-abbrev pub code_of_t : List ℕ
+abbrev pub code_of_t : Field
 code_of_t = row EntityCode 9 12
 
-abbrev pub payments_of_t : List ℕ
+abbrev pub payments_of_t : Field
 payments_of_t = row Numeric 112 122
 
-abbrev pub due_of_t : List ℕ
+abbrev pub due_of_t : Field
 due_of_t = row (More Difference) 123 136
 
-abbrev pub original_of_t : List ℕ
+abbrev pub original_of_t : Field
 original_of_t = row Numeric 175 188
 
-abbrev pub amended_of_t : List ℕ
+abbrev pub amended_of_t : Field
 amended_of_t = row Numeric 213 226
 
-unfoldable pub fields_of_t : List (List ℕ)
+unfoldable pub fields_of_t : List Field
 fields_of_t =
     letter_of_t ∷  -- letter T
     count_of_t ∷  -- number of S records
@@ -183,22 +184,22 @@ fields_of_t =
     []
 
 -- Final (F) record, 7 fields
-abbrev pub letter_of_f : List ℕ
+abbrev pub letter_of_f : Field
 letter_of_f = row RecordLetter 1 1
 
-abbrev pub count_of_f : List ℕ
+abbrev pub count_of_f : Field
 count_of_f = row Numeric 2 11
 
-abbrev pub employers_of_f : List ℕ
+abbrev pub employers_of_f : Field
 employers_of_f = row Numeric 12 21
 
-abbrev pub code_of_f : List ℕ
+abbrev pub code_of_f : Field
 code_of_f = row EntityCode 22 25
 
-abbrev pub total_of_f : List ℕ
+abbrev pub total_of_f : Field
 total_of_f = row Numeric 41 55
 
-unfoldable pub fields_of_f : List (List ℕ)
+unfoldable pub fields_of_f : List Field
 fields_of_f =
     letter_of_f ∷  -- letter F
     count_of_f ∷  -- number of S records
@@ -210,9 +211,9 @@ fields_of_f =
     []
 
 -- The records, in the order A, E, S, R, T, F.
-unfoldable pub records : List (List (List ℕ))
+unfoldable pub records : List (List Field)
 records = fields_of_a ∷ fields_of_e ∷ fields_of_s ∷ fields_of_r ∷ fields_of_t ∷ fields_of_f ∷ []
 
 -- The fields, record after record.
-unfoldable pub fields : List (List ℕ)
+unfoldable pub fields : List Field
 fields = fields_of_a ++ fields_of_e ++ fields_of_s ++ fields_of_r ++ fields_of_t ++ fields_of_f

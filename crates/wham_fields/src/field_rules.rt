@@ -1,100 +1,102 @@
 // By which rule each field is held against its context.
+#![tactic(auto, unfolding(crate::specs::FieldRules::rules, crate::specs::FieldRules::rules_of_a, crate::specs::FieldRules::rules_of_e, crate::specs::FieldRules::rules_of_f, crate::specs::FieldRules::rules_of_r, crate::specs::FieldRules::rules_of_s, crate::specs::FieldRules::rules_of_t))]
+
 ghost use Rattle.std.specs.Prelude.{◌≡◌};
 ghost use Rattle.wham_fields.specs.FieldRules.{rules};
 
 use crate::Edition;
-use edits::held_by;
+use edits::{FurtherRule, Rule};
 
-// Edition 2024: a number for each row of the list of fields, in its order.
-const RULES_OF_2024: [u8; 78] = [
+// Edition 2024: a rule for each row of the list of fields, in its order.
+const RULES_OF_2024: [Rule; 78] = [
     // A: the transmitter
-    held_by::NOTHING,
-    held_by::YEAR_HELD, // tax year
-    held_by::NOTHING,
-    held_by::NOTHING,
-    held_by::NOTHING,
-    held_by::NOTHING,
-    held_by::NOTHING,
-    held_by::NOTHING,
-    held_by::NOTHING,
-    held_by::NOTHING,
-    held_by::NOTHING,
-    held_by::NOTHING,
-    held_by::NOTHING,
-    held_by::NOTHING,
-    held_by::NOTHING,
-    held_by::NOTHING,
+    Rule::Nothing,
+    Rule::More(FurtherRule::YearHeld), // tax year
+    Rule::Nothing,
+    Rule::Nothing,
+    Rule::Nothing,
+    Rule::Nothing,
+    Rule::Nothing,
+    Rule::Nothing,
+    Rule::Nothing,
+    Rule::Nothing,
+    Rule::Nothing,
+    Rule::Nothing,
+    Rule::Nothing,
+    Rule::Nothing,
+    Rule::Nothing,
+    Rule::Nothing,
     // E: an employer
-    held_by::NOTHING,
-    held_by::YEAR_OF_A, // tax year
-    held_by::LIST_ROOM, // employer's FEIN
-    held_by::NOTHING,
-    held_by::NOTHING,
-    held_by::NOTHING,
-    held_by::NOTHING,
-    held_by::NOTHING,
-    held_by::NOTHING,
-    held_by::NOTHING,
-    held_by::NOTHING,
-    held_by::NOTHING,
-    held_by::NOTHING,
-    held_by::NOTHING,
-    held_by::NOTHING,
-    held_by::QUARTER_OF_E, // period
-    held_by::NOTHING,
-    held_by::NOTHING,
-    held_by::NOTHING,
-    held_by::NOTHING,
-    held_by::NOTHING,
-    held_by::NOTHING,
-    held_by::NOTHING,
-    held_by::NOTHING,
+    Rule::Nothing,
+    Rule::YearOfA, // tax year
+    Rule::More(FurtherRule::ListRoom), // employer's FEIN
+    Rule::Nothing,
+    Rule::Nothing,
+    Rule::Nothing,
+    Rule::Nothing,
+    Rule::Nothing,
+    Rule::Nothing,
+    Rule::Nothing,
+    Rule::Nothing,
+    Rule::Nothing,
+    Rule::Nothing,
+    Rule::Nothing,
+    Rule::Nothing,
+    Rule::More(FurtherRule::QuarterOfE), // period
+    Rule::Nothing,
+    Rule::Nothing,
+    Rule::Nothing,
+    Rule::Nothing,
+    Rule::Nothing,
+    Rule::Nothing,
+    Rule::Nothing,
+    Rule::Nothing,
     // S: an employee
-    held_by::NOTHING,
-    held_by::NOTHING,
-    held_by::NOTHING,
-    held_by::NOTHING,
-    held_by::NOTHING,
-    held_by::NOTHING,
-    held_by::PERIOD_OF_A, // month
-    held_by::YEAR_OF_A, // year
-    held_by::NOTHING,
-    held_by::NOTHING,
-    held_by::NOTHING,
-    held_by::NOTHING,
-    held_by::NOTHING,
-    held_by::ACCOUNT_OF_E, // withholding account
-    held_by::NOTHING,
+    Rule::Nothing,
+    Rule::Nothing,
+    Rule::Nothing,
+    Rule::Nothing,
+    Rule::Nothing,
+    Rule::Nothing,
+    Rule::PeriodOfA, // month
+    Rule::YearOfA, // year
+    Rule::Nothing,
+    Rule::Nothing,
+    Rule::Nothing,
+    Rule::Nothing,
+    Rule::Nothing,
+    Rule::More(FurtherRule::AccountOfE), // withholding account
+    Rule::Nothing,
     // R: a deposit
-    held_by::NOTHING,
-    held_by::QUARTER_END, // quarter being amended
-    held_by::NOTHING,
-    held_by::NOTHING,
-    held_by::NOTHING,
+    Rule::Nothing,
+    Rule::More(FurtherRule::QuarterEnd), // quarter being amended
+    Rule::Nothing,
+    Rule::Nothing,
+    Rule::Nothing,
     // T: the totals of an employer
-    held_by::NOTHING,
-    held_by::COUNT_OF_S, // number of S records
-    held_by::NOTHING,
-    held_by::NOTHING,
-    held_by::NOTHING,
-    held_by::NOTHING,
-    held_by::NOTHING,
-    held_by::SECOND_OF_S, // original total of the S records
-    held_by::NOTHING,
-    held_by::WAGES_OF_S, // amended total
-    held_by::NOTHING,
+    Rule::Nothing,
+    Rule::CountOfS, // number of S records
+    Rule::Nothing,
+    Rule::Nothing,
+    Rule::Nothing,
+    Rule::Nothing,
+    Rule::Nothing,
+    Rule::More(FurtherRule::SecondOfS), // original total of the S records
+    Rule::Nothing,
+    Rule::WagesOfS, // amended total
+    Rule::Nothing,
     // F: the end of the file
-    held_by::NOTHING,
-    held_by::FILE_COUNT_OF_S, // number of S records
-    held_by::FILE_COUNT_OF_E, // number of E records
-    held_by::NOTHING,
-    held_by::NOTHING,
-    held_by::FILE_WAGES_OF_S, // total
-    held_by::NOTHING,
+    Rule::Nothing,
+    Rule::FileCountOfS, // number of S records
+    Rule::FileCountOfE, // number of E records
+    Rule::Nothing,
+    Rule::Nothing,
+    Rule::FileWagesOfS, // total
+    Rule::Nothing,
 ];
 
 // The rules as a value, which a caller binds once and lends.
-pub fn all_rules(edition: Edition) -> [u8; 78]
+pub fn all_rules(edition: Edition) -> [Rule; 78]
     ensures { result ≡ rules edition }
 {
     match edition {

@@ -1,13 +1,14 @@
 // The fields of the six records of the amended withholding file: class beside first and last
 // column. A record is named by its letter, in the order A, E, S, R, T, F.
-#![tactic(auto)]
+#![tactic(auto, unfolding(crate::specs::Fields::fields, crate::specs::Fields::fields_of_a, crate::specs::Fields::fields_of_e, crate::specs::Fields::fields_of_f, crate::specs::Fields::fields_of_r, crate::specs::Fields::fields_of_s, crate::specs::Fields::fields_of_t))]
 
 pub mod field_rules;
 
 ghost use Rattle.std.specs.Prelude.{◌≡◌};
 ghost use Rattle.wham_fields.specs.Fields.{fields};
 
-use field::class;
+use field::class::Field;
+use field::row;
 
 // Which of Maine's specifications of this file is meant. The columns are the same in each; letters,
 // places and some rules are not.
@@ -24,159 +25,159 @@ pub const RECORD: u16 = 275;
 // writers name come first; each stands in the list below.
 
 // A: the transmitter
-pub const YEAR_OF_A: [u16; 3] = [class::NUMERIC, 2, 5];
+pub const YEAR_OF_A: Field = row!(Numeric, 2, 5);
 
-pub const STATE_OF_A: [u16; 3] = [class::STATE_CODE, 139, 140];
+pub const STATE_OF_A: Field = row!(StateCode, 139, 140);
 
 // E: an employer
-pub const YEAR_OF_E: [u16; 3] = [class::NUMERIC, 2, 5];
+pub const YEAR_OF_E: Field = row!(Numeric, 2, 5);
 
-pub const FEIN_OF_E: [u16; 3] = [class::NUMERIC, 6, 14];
+pub const FEIN_OF_E: Field = row!(Numeric, 6, 14);
 
-pub const STATE_OF_E: [u16; 3] = [class::STATE_CODE, 139, 140];
+pub const STATE_OF_E: Field = row!(StateCode, 139, 140);
 
-pub const PERIOD_OF_E: [u16; 3] = [class::PERIOD, 188, 189];
+pub const PERIOD_OF_E: Field = row!(Period, 188, 189);
 
-pub const FOLLOW_OF_E: [u16; 3] = [class::FLAG, 190, 190];
+pub const FOLLOW_OF_E: Field = row!(Flag, 190, 190);
 
-pub const PROCESSOR_OF_E: [u16; 3] = [class::NUMERIC, 209, 217];
+pub const PROCESSOR_OF_E: Field = row!(Numeric, 209, 217);
 
-pub const ACCOUNT_OF_E: [u16; 3] = [class::REQUIRED_TEXT, 258, 268];
+pub const ACCOUNT_OF_E: Field = row!(RequiredText, 258, 268);
 
 // S: an employee
-pub const IDENTITY_OF_S: [u16; 3] = [class::SOCIAL_SECURITY, 2, 10];
+pub const IDENTITY_OF_S: Field = row!(More(SocialSecurity), 2, 10);
 
-pub const LAST_NAME_OF_S: [u16; 3] = [class::REQUIRED_TEXT, 11, 30];
+pub const LAST_NAME_OF_S: Field = row!(RequiredText, 11, 30);
 
-pub const FIRST_NAME_OF_S: [u16; 3] = [class::REQUIRED_TEXT, 31, 42];
+pub const FIRST_NAME_OF_S: Field = row!(RequiredText, 31, 42);
 
-pub const INITIAL_OF_S: [u16; 3] = [class::IGNORED, 43, 43];
+pub const INITIAL_OF_S: Field = row!(Ignored, 43, 43);
 
-pub const PERIOD_OF_S: [u16; 3] = [class::PERIOD, 46, 47];
+pub const PERIOD_OF_S: Field = row!(Period, 46, 47);
 
-pub const YEAR_OF_S: [u16; 3] = [class::NUMERIC, 48, 51];
+pub const YEAR_OF_S: Field = row!(Numeric, 48, 51);
 
-pub const ORIGINAL_OF_S: [u16; 3] = [class::NUMERIC, 191, 202];
+pub const ORIGINAL_OF_S: Field = row!(Numeric, 191, 202);
 
-pub const CORRECT_OF_S: [u16; 3] = [class::NUMERIC, 203, 214];
+pub const CORRECT_OF_S: Field = row!(Numeric, 203, 214);
 
-pub const ACCOUNT_OF_S: [u16; 3] = [class::REQUIRED_TEXT, 215, 225];
+pub const ACCOUNT_OF_S: Field = row!(RequiredText, 215, 225);
 
 // R: a deposit
-pub const QUARTER_OF_R: [u16; 3] = [class::NUMERIC, 2, 9];
+pub const QUARTER_OF_R: Field = row!(Numeric, 2, 9);
 
 // T: the totals of an employer
-pub const LETTER_OF_T: [u16; 3] = [class::RECORD_LETTER, 1, 1];
+pub const LETTER_OF_T: Field = row!(RecordLetter, 1, 1);
 
-pub const COUNT_OF_T: [u16; 3] = [class::NUMERIC, 2, 8];
+pub const COUNT_OF_T: Field = row!(Numeric, 2, 8);
 
-pub const CODE_OF_T: [u16; 3] = [class::ENTITY_CODE, 9, 12];
+pub const CODE_OF_T: Field = row!(EntityCode, 9, 12);
 
-pub const PAYMENTS_OF_T: [u16; 3] = [class::NUMERIC, 112, 122];
+pub const PAYMENTS_OF_T: Field = row!(Numeric, 112, 122);
 
-pub const DUE_OF_T: [u16; 3] = [class::DIFFERENCE, 123, 136];
+pub const DUE_OF_T: Field = row!(More(Difference), 123, 136);
 
-pub const ORIGINAL_OF_T: [u16; 3] = [class::NUMERIC, 175, 188];
+pub const ORIGINAL_OF_T: Field = row!(Numeric, 175, 188);
 
-pub const AMENDED_OF_T: [u16; 3] = [class::NUMERIC, 213, 226];
+pub const AMENDED_OF_T: Field = row!(Numeric, 213, 226);
 
 // F: the end of the file
-pub const LETTER_OF_F: [u16; 3] = [class::RECORD_LETTER, 1, 1];
+pub const LETTER_OF_F: Field = row!(RecordLetter, 1, 1);
 
-pub const COUNT_OF_F: [u16; 3] = [class::NUMERIC, 2, 11];
+pub const COUNT_OF_F: Field = row!(Numeric, 2, 11);
 
-pub const EMPLOYERS_OF_F: [u16; 3] = [class::NUMERIC, 12, 21];
+pub const EMPLOYERS_OF_F: Field = row!(Numeric, 12, 21);
 
-pub const CODE_OF_F: [u16; 3] = [class::ENTITY_CODE, 22, 25];
+pub const CODE_OF_F: Field = row!(EntityCode, 22, 25);
 
-pub const TOTAL_OF_F: [u16; 3] = [class::NUMERIC, 41, 55];
+pub const TOTAL_OF_F: Field = row!(Numeric, 41, 55);
 
 // All fields, record after record.
-const FIELDS: [[u16; 3]; 78] = [
+const FIELDS: [Field; 78] = [
     // A: the transmitter
-    [class::RECORD_LETTER, 1, 1],
+    row!(RecordLetter, 1, 1),
     YEAR_OF_A,
-    [class::NUMERIC, 6, 14],
-    [class::ENTITY_CODE, 15, 18],
-    [class::IGNORED, 19, 23],
-    [class::REQUIRED_TEXT, 24, 73],
-    [class::REQUIRED_TEXT, 74, 113],
-    [class::REQUIRED_TEXT, 114, 138],
+    row!(Numeric, 6, 14),
+    row!(EntityCode, 15, 18),
+    row!(Ignored, 19, 23),
+    row!(RequiredText, 24, 73),
+    row!(RequiredText, 74, 113),
+    row!(RequiredText, 114, 138),
     STATE_OF_A,
-    [class::IGNORED, 141, 153],
-    [class::ZIP_CODE, 154, 158],
-    [class::ZIP_EXTENSION, 159, 163],
-    [class::REQUIRED_TEXT, 164, 193],
-    [class::NUMERIC, 194, 203],
-    [class::OPTIONAL_TEXT, 204, 207],
-    [class::IGNORED, 208, 275],
+    row!(Ignored, 141, 153),
+    row!(ZipCode, 154, 158),
+    row!(ZipExtension, 159, 163),
+    row!(RequiredText, 164, 193),
+    row!(Numeric, 194, 203),
+    row!(OptionalText, 204, 207),
+    row!(Ignored, 208, 275),
     // E: an employer
-    [class::RECORD_LETTER, 1, 1],
+    row!(RecordLetter, 1, 1),
     YEAR_OF_E,
     FEIN_OF_E,
-    [class::IGNORED, 15, 23],
-    [class::REQUIRED_TEXT, 24, 73],
-    [class::REQUIRED_TEXT, 74, 113],
-    [class::REQUIRED_TEXT, 114, 138],
+    row!(Ignored, 15, 23),
+    row!(RequiredText, 24, 73),
+    row!(RequiredText, 74, 113),
+    row!(RequiredText, 114, 138),
     STATE_OF_E,
-    [class::IGNORED, 141, 148],
-    [class::ZIP_EXTENSION, 149, 153],
-    [class::ZIP_CODE, 154, 158],
-    [class::IGNORED, 159, 166],
-    [class::ENTITY_CODE, 167, 170],
-    [class::MAINE_CODE, 171, 172],
-    [class::IGNORED, 173, 187],
+    row!(Ignored, 141, 148),
+    row!(ZipExtension, 149, 153),
+    row!(ZipCode, 154, 158),
+    row!(Ignored, 159, 166),
+    row!(EntityCode, 167, 170),
+    row!(More(MaineCode), 171, 172),
+    row!(Ignored, 173, 187),
     PERIOD_OF_E,
     FOLLOW_OF_E,
-    [class::IGNORED, 191, 208],
+    row!(Ignored, 191, 208),
     PROCESSOR_OF_E,
-    [class::LICENCE, 218, 224],
-    [class::NUMERIC, 225, 228],
-    [class::IGNORED, 229, 257],
+    row!(More(Licence), 218, 224),
+    row!(Numeric, 225, 228),
+    row!(Ignored, 229, 257),
     ACCOUNT_OF_E,
-    [class::IGNORED, 269, 275],
+    row!(Ignored, 269, 275),
     // S: an employee
-    [class::RECORD_LETTER, 1, 1],
+    row!(RecordLetter, 1, 1),
     IDENTITY_OF_S,
     LAST_NAME_OF_S,
     FIRST_NAME_OF_S,
     INITIAL_OF_S,
-    [class::MAINE_CODE, 44, 45],
+    row!(More(MaineCode), 44, 45),
     PERIOD_OF_S,
     YEAR_OF_S,
-    [class::IGNORED, 52, 142],
-    [class::ENTITY_CODE, 143, 146],
-    [class::IGNORED, 147, 190],
+    row!(Ignored, 52, 142),
+    row!(EntityCode, 143, 146),
+    row!(Ignored, 147, 190),
     ORIGINAL_OF_S,
     CORRECT_OF_S,
     ACCOUNT_OF_S,
-    [class::IGNORED, 226, 275],
+    row!(Ignored, 226, 275),
     // R: a deposit
-    [class::RECORD_LETTER, 1, 1],
+    row!(RecordLetter, 1, 1),
     QUARTER_OF_R,
-    [class::IGNORED, 10, 18],
-    [class::NUMERIC, 19, 27],
-    [class::IGNORED, 28, 275],
+    row!(Ignored, 10, 18),
+    row!(Numeric, 19, 27),
+    row!(Ignored, 28, 275),
     // T: the totals of an employer
     LETTER_OF_T,
     COUNT_OF_T,
     CODE_OF_T,
-    [class::IGNORED, 13, 111],
+    row!(Ignored, 13, 111),
     PAYMENTS_OF_T,
     DUE_OF_T,
-    [class::IGNORED, 137, 174],
+    row!(Ignored, 137, 174),
     ORIGINAL_OF_T,
-    [class::IGNORED, 189, 212],
+    row!(Ignored, 189, 212),
     AMENDED_OF_T,
-    [class::IGNORED, 227, 275],
+    row!(Ignored, 227, 275),
     // F: the end of the file
     LETTER_OF_F,
     COUNT_OF_F,
     EMPLOYERS_OF_F,
     CODE_OF_F,
-    [class::IGNORED, 26, 40],
+    row!(Ignored, 26, 40),
     TOTAL_OF_F,
-    [class::IGNORED, 56, 275],
+    row!(Ignored, 56, 275),
 ];
 
 // The number of each record's first field, and how many fields there are.
@@ -195,7 +196,7 @@ pub const FIRST_OF_F: usize = 71;
 pub const ALL_FIELDS: usize = 78;
 
 // The list of fields as a value, which a caller binds once and lends.
-pub fn all_rows() -> [[u16; 3]; 78]
+pub fn all_rows() -> [Field; 78]
     ensures { result ≡ fields }
 {
     FIELDS

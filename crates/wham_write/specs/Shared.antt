@@ -1,15 +1,14 @@
 -- Laws: a T or an F that is accepted is the written one but in ignored columns, and but for a hyphen before thirteen zeros.
-use Rattle.std.specs.Prelude.{ℕ, zero, suc, ◌+◌, ◌-◌, ◌^◌, ◌≤◌, ◌<◌, Bool, true, false, ◌&&◌, ◌||◌, List, [], ◌∷◌, ◌≡◌, eqb, leb, length, get_or}
+use Rattle.std.specs.Prelude.{ℕ, zero, suc, ◌+◌, ◌-◌, ◌^◌, ◌≤◌, ◌<◌, Bool, true, false, ◌&&◌, ◌||◌, List, [], ◌∷◌, ◌≡◌, leb, length, get_or}
 use Rattle.std.proofs.Math.Logic.{inl, inr}
 use Rattle.std.proofs.Math.Path.{refl}
 use Rattle.std.proofs.Common.{sym, subst, not-suc-le-zero, le_of_suc-le-suc, arith, le-leb}
 use Rattle.laws.specs.Finding.{value}
 use Rattle.laws.specs.Spelling.{bytes}
 use Rattle.number.specs.Numbers.{number_in}
-use Rattle.field.specs.Classes.{class_number}
 use Rattle.field.specs.declared.class.Class.TheVariants.{Ignored}
 use Rattle.edits.specs.FieldRow.{row, no_row, class_in, first_in, last_in}
-use Rattle.edits.specs.RowTests.{ignored_in}
+use Rattle.edits.specs.RowTests.{is_ignored, ignored_in}
 use Rattle.edits.specs.declared.Open.{Open}
 use Rattle.edits.specs.declared.Totals.{Totals}
 use Rattle.wham_fields.specs.Fields.{fields_of_t, fields_of_f, due_of_t}
@@ -22,29 +21,30 @@ use Rattle.wham_write.specs.Others.{is_of, MinusZero, SameTotal, SameFinal}
 use Rattle.wham_write.specs.Records.{due_parts, parts_of_t, parts_of_f, total_record, final_record}
 use Rattle.wham_write.specs.TotalFields.{TotalHeld, FinalHeld}
 use Rattle.wham_write.specs.Zeros.{fourteen_zeros, minus_zeros}
+use Rattle.field.specs.declared.class.Field.{Field}
 
 -- ---- the ignored columns
 either : (a b : Bool) → b ≡ true → a || b ≡ true
 either true b e = refl
 either false b e = e
 
-abbrev ignored_at : List ℕ → ℕ → Bool
-ignored_at field column = eqb (class_in field) (class_number Ignored) && leb (first_in field) column && leb column (last_in field)
+abbrev ignored_at : Field → ℕ → Bool
+ignored_at field column = is_ignored (class_in field) && leb (first_in field) column && leb column (last_in field)
 
 -- Those of an ignored row, number i of the list.
-ignored_row : (rows : List (List ℕ)) (i first last column : ℕ) → i < length rows → get_or rows i no_row ≡ row Ignored first last → first ≤ column → column ≤ last
+ignored_row : (rows : List Field) (i first last column : ℕ) → i < length rows → get_or rows i no_row ≡ row Ignored first last → first ≤ column → column ≤ last
     → ignored_in rows column ≡ true
 unfolding ignored_in
 ignored_row [] i first last column h is low high = absurd (not-suc-le-zero h)
 ignored_row (this ∷ rows) zero first last column h is low high =
-    subst (λ (field : List ℕ). ignored_at field column || ignored_in rows column ≡ true) (sym is)
+    subst (λ (field : Field). ignored_at field column || ignored_in rows column ≡ true) (sym is)
     (rw (le-leb first column low, le-leb column last high))
 ignored_row (this ∷ rows) (suc i) first last column h is low high =
     either (ignored_at this column) (ignored_in rows column) (ignored_row rows i first last column (le_of_suc-le-suc h) is low high)
 
 -- The four of T, and the two of F.
 module _ (k : ℕ) where
-  abbrev Within : ℕ → ℕ → List (List ℕ) → Type 0
+  abbrev Within : ℕ → ℕ → List Field → Type 0
   Within first last rows = first - 1 ≤ k → k < last → ignored_in rows (k + 1) ≡ true
 
   ignored_of_T : Within 13 111 fields_of_t × Within 137 174 fields_of_t × Within 189 212 fields_of_t × Within 227 275 fields_of_t

@@ -1,37 +1,42 @@
 // The T and the F record of the amended withholding file that a walk accepts next, written into a
 // lent slice.
-#![tactic(auto)]
+#![tactic(auto, unfolding(crate::specs::Records::final_record, crate::specs::Records::total_record, laws::specs::Spelling::bytes, write::specs::Records::put_all))]
 
 ghost use Rattle.std.specs.Prelude.{◌≡◌, length};
-ghost use Rattle.reason.specs.ReasonNumbers.{notice};
 ghost use Rattle.state.specs.Walks.{walk_of, standing_of};
 ghost use Rattle.write.specs.Records.{put_all};
-ghost use Rattle.write.specs.Writing.{notice_in, written_by};
-ghost use Rattle.wham_write.specs.Records.{amended_total, due_parts, total_record, final_record};
-ghost use Rattle.wham_write.specs.Writing.{total_next, is_ended, final_next, too_large, total_refusal, final_refusal, total_writing, final_writing};
+ghost use Rattle.write.specs.Writing.{written_by};
+ghost use Rattle.wham_write.specs.Records.{amended_total, due_parts, total_record};
+ghost use Rattle.wham_write.specs.Writing.{total_next, is_ended, final_next, too_large, total_writing, final_writing};
 
-use edits::{Open, Totals, format, rows};
+use edits::{Open, format, rows};
 use state::{Stage, State, fitness};
 use text::put;
 use wham_fields::{
     AMENDED_OF_T, CODE_OF_F, CODE_OF_T, COUNT_OF_F, COUNT_OF_T, DUE_OF_T, EMPLOYERS_OF_F, Edition,
     LETTER_OF_F, LETTER_OF_T, ORIGINAL_OF_T, PAYMENTS_OF_T, TOTAL_OF_F,
 };
-use write::Wrote;
+use write::{FinalRecord, Wrote};
 
-const LETTER_T: [u8; 1] = *b"T";
+// How many characters a record of such a file has.
+const SIZE: usize = wham_fields::RECORD as usize;
 
-const LETTER_F: [u8; 1] = *b"F";
-
-const HYPHEN: [u8; 1] = *b"-";
-
-// A number that is too large for the 11 columns of the payments, for the 14 of the other amounts of
-// T, and for the 15 of F.
+// A number that is too large for the 11 columns of the payments, and for the 14 of the other
+// amounts of T.
 const TOO_LARGE_FOR_PAYMENTS: u64 = 100000000000;
 
 const TOO_LARGE_FOR_T: u64 = 100000000000000;
 
-const TOO_LARGE_FOR_F: u64 = 1000000000000000;
+// Its F record.
+const FINAL: FinalRecord = FinalRecord {
+    size: SIZE,
+    entity: wham::ENTITY,
+    letter: LETTER_OF_F,
+    count: COUNT_OF_F,
+    employers: EMPLOYERS_OF_F,
+    code: CODE_OF_F,
+    sum: TOTAL_OF_F,
+};
 
 // The amended total of T: that of the S records, or in other editions the one that the caller gives.
 fn amended_total(edition: Edition, e: Open, total: u64) -> u64
@@ -46,78 +51,28 @@ fn amended_total(edition: Edition, e: Open, total: u64) -> u64
 fn is_t_next(st: State) -> bool
     ensures { result ≡ total_next (walk_of st) }
 {
-    let held = st.held;
-    let format = held.format;
-    let stage = st.stage;
-    if format::is_wham_2024(format) {
-        return fitness::is_open(stage);
-    }
-    false
+    format::is_wham_2024(st.held.format) && fitness::is_open(st.stage)
 }
 
 // Whether the last E has ended: its T is read, or it is open and needs none.
 fn is_ended(stage: Stage, follow: bool) -> bool
     ensures { result ≡ is_ended (standing_of stage) follow }
 {
-    if write::is_after_t(stage) {
-        return true;
-    }
-    if fitness::is_open(stage) {
-        return !follow;
-    }
-    false
+    write::is_after_t(stage) || (fitness::is_open(stage) && !follow)
 }
 
 // Whether F may come next: the last E of such a file has ended.
 fn is_f_next(st: State) -> bool
     ensures { result ≡ final_next (walk_of st) }
 {
-    let held = st.held;
-    let format = held.format;
-    let stage = st.stage;
-    let open = st.open;
-    if format::is_wham_2024(format) {
-        return is_ended(stage, open.follow);
-    }
-    false
+    format::is_wham_2024(st.held.format) && is_ended(st.stage, st.open.follow)
 }
 
 // Whether a number of T has more digits than its field.
 fn is_too_large(payments: u64, original: u64, amended: u64) -> bool
     ensures { result ≡ too_large payments original amended }
 {
-    if TOO_LARGE_FOR_PAYMENTS <= payments {
-        return true;
-    }
-    if TOO_LARGE_FOR_T <= original {
-        return true;
-    }
-    TOO_LARGE_FOR_T <= amended
-}
-
-// What is answered to a call that would write T into a slice of so many bytes.
-fn answer_t(st: State, payments: u64, amended: u64, size: usize) -> Wrote
-    ensures { notice_in result ≡ notice (total_refusal (walk_of st) payments amended size) 0 0 }
-{
-    let open = st.open;
-    let unfit = write::is_unfit(st);
-    let next = is_t_next(st);
-    let none = write::none_to_total(open);
-    let long = size == wham_fields::RECORD as usize;
-    let large = is_too_large(payments, open.second, amended);
-    write::answer(unfit, long, next, none, large)
-}
-
-// The same for F.
-fn answer_f(st: State, size: usize) -> Wrote
-    ensures { notice_in result ≡ notice (final_refusal (walk_of st) size) 0 0 }
-{
-    let all = st.all;
-    let unfit = write::is_unfit(st);
-    let next = is_f_next(st);
-    let long = size == wham_fields::RECORD as usize;
-    let large = TOO_LARGE_FOR_F <= all.sum;
-    write::answer(unfit, long, next, false, large)
+    TOO_LARGE_FOR_PAYMENTS <= payments || TOO_LARGE_FOR_T <= original || TOO_LARGE_FOR_T <= amended
 }
 
 // What is due: the amended total less the payments, with a hyphen in front if it is less than none.
@@ -126,11 +81,10 @@ fn put_due(amended: u64, payments: u64, out: &mut [u8])
 {
     if payments <= amended {
         rows::write_at(out, DUE_OF_T, amended - payments);
-        return;
+    } else {
+        rows::write_text_at(out, DUE_OF_T, b"-");
+        number::write_number(out, DUE_OF_T.first + 1, DUE_OF_T.last, payments - amended);
     }
-    let hyphen = HYPHEN;
-    rows::write_text_at(out, DUE_OF_T, &hyphen);
-    number::write_number(out, DUE_OF_T[1] + 1, DUE_OF_T[2], payments - amended);
 }
 
 // T of the open E, in a slice of the right length.
@@ -138,31 +92,14 @@ fn put_t(e: Open, payments: u64, amended: u64, out: &mut [u8])
     requires { length out.old ≡ 275 }
     ensures { out.new ≡ total_record e payments amended }
 {
-    let letter = LETTER_T;
-    let code = wham::ENTITY;
     put::blank_line(out);
-    rows::write_text_at(out, LETTER_OF_T, &letter);
+    rows::write_text_at(out, LETTER_OF_T, b"T");
     rows::write_at(out, COUNT_OF_T, e.count);
-    rows::write_text_at(out, CODE_OF_T, &code);
+    rows::write_text_at(out, CODE_OF_T, &wham::ENTITY);
     rows::write_at(out, PAYMENTS_OF_T, payments);
     put_due(amended, payments, out);
     rows::write_at(out, ORIGINAL_OF_T, e.second);
     rows::write_at(out, AMENDED_OF_T, amended);
-}
-
-// F of the whole file.
-fn put_f(all: Totals, out: &mut [u8])
-    requires { length out.old ≡ 275 }
-    ensures { out.new ≡ final_record all }
-{
-    let letter = LETTER_F;
-    let code = wham::ENTITY;
-    put::blank_line(out);
-    rows::write_text_at(out, LETTER_OF_F, &letter);
-    rows::write_at(out, COUNT_OF_F, all.count);
-    rows::write_at(out, EMPLOYERS_OF_F, all.employers);
-    rows::write_text_at(out, CODE_OF_F, &code);
-    rows::write_at(out, TOTAL_OF_F, all.sum);
 }
 
 // The T record that the walk accepts next, with these payments in whole cents. The total of all
@@ -171,26 +108,17 @@ pub fn write_t(st: State, payments: u64, total: u64, out: &mut [u8]) -> Wrote
     ensures { written_by result out.new ≡ total_writing (walk_of st) payments total out.old }
 {
     let amended = amended_total(Edition::Of2024, st.open, total);
-    let answer = answer_t(st, payments, amended, out.len());
-    match answer {
-        Wrote::Refused(_) => answer,
-        Wrote::Record => {
-            put_t(st.open, payments, amended, out);
-            answer
-        }
-    }
+    let long = out.len() == SIZE;
+    let none = write::none_to_total(st.open);
+    let large = is_too_large(payments, st.open.second, amended);
+    write::answer(write::is_unfit(st), long, is_t_next(st), none, large)?;
+    put_t(st.open, payments, amended, out);
+    Ok(())
 }
 
 // The F record that the walk accepts next.
 pub fn write_f(st: State, out: &mut [u8]) -> Wrote
     ensures { written_by result out.new ≡ final_writing (walk_of st) out.old }
 {
-    let answer = answer_f(st, out.len());
-    match answer {
-        Wrote::Refused(_) => answer,
-        Wrote::Record => {
-            put_f(st.all, out);
-            answer
-        }
-    }
+    write::write_final(st, is_f_next(st), &FINAL, out)
 }

@@ -6,7 +6,9 @@ use Rattle.text.specs.Put.{blanks, put_text}
 use Rattle.edits.specs.FieldRow.{first_in, last_in}
 use Rattle.edits.specs.declared.Open.{Open}
 use Rattle.edits.specs.declared.Totals.{Totals}
+use Rattle.write.specs.declared.FinalRecord.{FinalRecord}
 use Rattle.pfml_fields.specs.Fields.{letter_of_t, count_of_t, code_of_t, fein_of_t, blank_of_t, wages_of_t, rest_of_t, letter_of_f, count_of_f, employers_of_f, code_of_f, blank_of_f, wages_of_f, rest_of_f}
+use Rattle.field.specs.declared.class.Field.{Field}
 
 -- What stands in a field's columns: a text from the first on, a number in all of them, or blanks.
 pub data Part : Type 0 where
@@ -29,14 +31,24 @@ abbrev pub line_of : ℕ → List Part → List ℕ
 line_of n parts = put_all parts (blanks n)
 
 -- A part that fills a field of the list.
-abbrev pub text_at : List ℕ → List ℕ → Part
+abbrev pub text_at : Field → List ℕ → Part
 text_at field t = text (first_in field) t
 
-abbrev pub number_at : List ℕ → ℕ → Part
+abbrev pub number_at : Field → ℕ → Part
 number_at field v = number (first_in field) (last_in field) v
 
-abbrev pub blank_at : List ℕ → Part
+abbrev pub blank_at : Field → Part
 blank_at field = blank (first_in field) (last_in field)
+
+-- The F record is alike in every format: the letter, the counts, the entity's code and the sum, each in the format's own columns.
+abbrev pub parts_of_final : FinalRecord → Totals → List Part
+parts_of_final this all =
+    text_at this.letter (bytes "F") ∷
+    number_at this.count all.count ∷
+    number_at this.employers all.employers ∷
+    text_at this.code this.entity ∷
+    number_at this.sum all.sum ∷
+    []
 
 -- ---- PFML
 -- "Each line has 290 characters"

@@ -1,5 +1,5 @@
 -- Definitions: "Writing T or F into a lent slice": what a call answers, and what is then in the slice.
-use Rattle.std.specs.Prelude.{ℕ, ◌^◌, Bool, true, false, not, ◌&&◌, List, eqb, leb, length, if◌then◌else◌}
+use Rattle.std.specs.Prelude.{ℕ, ◌^◌, Bool, true, false, not, ◌&&◌, List, eqb, leb, length, if◌then◌else◌, Result, Ok, Err, ⊤}
 use Rattle.reason.specs.ReasonNumbers.{Notice, notice, notice_of}
 use Rattle.edits.specs.Formats.{is_pfml}
 use Rattle.edits.specs.declared.Open.{Open}
@@ -9,8 +9,7 @@ use Rattle.state.specs.Unfit.{is_open, unfit}
 use Rattle.state.specs.Walks.{Standing, reading, accepted, refused, Walk}
 use Rattle.step.specs.Moves.{all_well}
 use Rattle.write.specs.Records.{total_record, final_record}
-use Rattle.write.specs.declared.Wrote.{Wrote}
-use Rattle.write.specs.declared.Wrote.TheVariants.{Record, Refused}
+use Rattle.reason.specs.declared.Refusal.{Refusal}
 
 -- The answer in the paper's numbers, and the slice's bytes.
 pub record Writing : Type 0 where
@@ -78,9 +77,9 @@ abbrev pub final_writing : Walk → List ℕ → Writing
 final_writing walk out = writing (final_refusal walk (length out)) (final_record walk.all) out
 
 -- What the code answers, in the paper's numbers, with what the slice then holds.
-abbrev pub notice_in : Wrote → Notice
-notice_in Record = all_well
-notice_in (Refused why) = notice_of why
+abbrev pub notice_in : Result ⊤ Refusal → Notice
+notice_in (Ok _) = all_well
+notice_in (Err why) = notice_of why
 
-abbrev pub written_by : Wrote → List ℕ → Writing
+abbrev pub written_by : Result ⊤ Refusal → List ℕ → Writing
 written_by wrote out = record { says = notice_in wrote; out = out }

@@ -1,5 +1,5 @@
 -- Laws: nothing is refused exactly if no reason to refuse is there, and the slice is the record exactly then.
-use Rattle.std.specs.Prelude.{ℕ, Bool, true, false, List, ◌≡◌, refl, eqb, length}
+use Rattle.std.specs.Prelude.{ℕ, Bool, true, false, List, ◌≡◌, refl, eqb, length, Result, Ok, Err, ⊤}
 use Rattle.std.proofs.Common.{sym, ap, ◌∙◌, arith, eqb-true, eq-eqb, ne_eqb}
 use Rattle.reason.specs.ReasonNumbers.{Notice, notice}
 use Rattle.reason.specs.Once.{never_zero}
@@ -10,8 +10,6 @@ use Rattle.state.specs.UnfitLaws.{fit_without}
 use Rattle.state.specs.Walks.{Walk}
 use Rattle.step.specs.Moves.{all_well}
 use Rattle.write.specs.Writing.{no_tables, refusal_of, writing, notice_in, written_by}
-use Rattle.write.specs.declared.Wrote.{Wrote}
-use Rattle.write.specs.declared.Wrote.TheVariants.{Record, Refused}
 
 -- No reason to refuse is there.
 pub record Free (unfitness long next none large : Bool) : Type 0 where
@@ -40,24 +38,24 @@ unfolding refusal_of
 free_written unfitness long next none large free = rw (free.fit, free.is_long, free.in_place, free.some, free.small)
 
 -- The number of the answer is 0 where the record is written, and only there.
-module _ (number : ℕ) (wrote : Wrote) (says : notice_in wrote ≡ notice number 0 0) where
-  written_zero : wrote ≡ Record → number ≡ 0
+module _ (number : ℕ) (wrote : Result ⊤ Refusal) (says : notice_in wrote ≡ notice number 0 0) where
+  written_zero : wrote ≡ Ok tt → number ≡ 0
   written_zero e = sym (ap (λ (n : Notice). n.number) (ap notice_in (sym e) ∙ says))
 
-  refused_number : (why : Refusal) → wrote ≡ Refused why → number ≡ 0 → ⊥
+  refused_number : (why : Refusal) → wrote ≡ Err why → number ≡ 0 → ⊥
   refused_number why e zero = never_zero why.reason (ap (λ (n : Notice). n.number) (ap notice_in (sym e) ∙ says) ∙ zero)
 
   -- So the slice is the record there, and as it was elsewhere.
   module _ (line out : List ℕ) where
-    pub writes : wrote ≡ Record → written_by wrote line ≡ writing number line out
+    pub writes : wrote ≡ Ok tt → written_by wrote line ≡ writing number line out
     writes e = rw (says, written_zero e)
 
-    pub leaves : (why : Refusal) → wrote ≡ Refused why → written_by wrote out ≡ writing number line out
+    pub leaves : (why : Refusal) → wrote ≡ Err why → written_by wrote out ≡ writing number line out
     leaves why e = rw (says, ne_eqb number 0 (refused_number why e))
 
 -- A slice that is written has the record's length.
-pub written_length : (n : ℕ) (unfitness : Bool) (size : ℕ) (next none large : Bool) (wrote : Wrote)
-    → notice_in wrote ≡ notice (refusal_of unfitness (eqb size n) next none large) 0 0 → wrote ≡ Record → size ≡ n
+pub written_length : (n : ℕ) (unfitness : Bool) (size : ℕ) (next none large : Bool) (wrote : Result ⊤ Refusal)
+    → notice_in wrote ≡ notice (refusal_of unfitness (eqb size n) next none large) 0 0 → wrote ≡ Ok tt → size ≡ n
 written_length n unfitness size next none large wrote says e =
     let long = eqb size n in
     eqb-true size n (not_refused unfitness long next none large (written_zero (refusal_of unfitness long next none large) wrote says e)).is_long

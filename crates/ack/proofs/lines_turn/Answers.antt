@@ -28,15 +28,6 @@ loop-ids-preserved c =
     ∙ sym (loop_next held l.here (walk_of l.st) t out (sym c.takes_line.ensures ∙ c.loop-ids-test.true) a.ensures)
     ∙ l.invariant
 
-pub loop-ids-smaller : goal.loop-ids-smaller
-loop-ids-smaller c =
-    let l = c.loop-ids in
-    let a = c.lines_at-a in
-    let t = tables l.ids l.list in
-    let lt = takes_within c.args.bytes.now l.here (walk_of l.st) t (sym c.takes_line.ensures ∙ c.loop-ids-test.true) in
-    let farther = run_farther c.args.bytes.now l.here.at (walk_of l.st) t (out_of a.result (tables a.new.ids a.new.list)) lt a.ensures in
-    rw c.place_behind-here.ensures (omega arith)
-
 pub returns-then-here : goal.returns-then-here
 returns-then-here c =
     let l = c.loop-ids in

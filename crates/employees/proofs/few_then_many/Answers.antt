@@ -1,18 +1,14 @@
 -- Where one of the few lines was not taken, no more would be.
 use mathlib.Core.Path.{subst, sym, ap, ◌∙◌}
 use borrow.Author.Tests.{eqb-false}
-use Rattle.employees.specs.MarkLaws.{no_marks_cover}
 use Rattle.employees.specs.RunLaws.{Prepared, onward, prepared_run, few_more, few_only}
 use Rattle.employees.specs.Runs.{Reached, reached_by}
 use Rattle.employees.proofs.few_then_many.Goals as goal
 
-pub lines-run-requires : goal.lines-run-requires
-lines-run-requires c = (c.requires, no_marks_cover _)
-
 pub marked-requires : goal.marked-requires
 marked-requires c = let a = c.args in
-    subst (Prepared a.list a.low.now a.high.now) (sym c.lines-run.ensures)
-    (prepared_run a.bytes.now a.list a.low.now a.high.now c.few_lines-few.result (reached_by a.begun a.ids.now) c.requires)
+    subst (Prepared a.list a.template.now.low a.template.now.high) (sym c.lines-run.ensures)
+    (prepared_run a.bytes.now a.list a.template.now.low a.template.now.high c.few_lines-few.result (reached_by a.begun a.ids.now) c.requires)
 
 pub returns-then-took_all : goal.returns-then-took_all
 returns-then-took_all c = let a = c.args in

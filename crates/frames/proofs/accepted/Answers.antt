@@ -1,17 +1,24 @@
-use Prim.Native.Nat.{◌-◌, ◌*◌}
-use mathlib.Core.Path.{◌≡◌}
-use native.Mathlib.Nat.{add-sub_cancel}
-use borrow.Author.Tests.{lt-ltb, le-ltb}
-use Rattle.frames.specs.FrameParts.{accepted_size}
-use Rattle.frames.specs.Frames.{employer_size}
+-- The frames of the employers, then the closing one.
+use mathlib.Core.List.{◌++◌}
+use mathlib.Core.Path.{sym}
+use lib.ListN.{take}
+use Rattle.frames.specs.FrameLaws.{all_length, all_written, too_small, fits}
+use Rattle.frames.specs.Frames.{employer_frames, closing_frame}
 use Rattle.frames.proofs.accepted.Goals as goal
 
 pub returns-then-out-size : goal.returns-then-out-size
-returns-then-out-size c = rw (← c.accepted_size-size.ensures, lt-ltb _ _ c.if-out-size.true)
+returns-then-out-size c =
+    let a = c.args in
+    let list = a.list.now in
+    let small = rw c.employer_size.ensures at c.if-out-size.true in
+    sym (too_small (employer_frames a.format (take a.all.employers list) ++ closing_frame a.all) a.out.now _ (all_length a.format list a.all c.requires.1) small)
 
 pub returns : goal.returns
 returns c =
-    let sized = c.accepted_size-size.ensures in
-    let args = c.args in
-    let place : accepted_size args.format args.all - 35 ≡ employer_size args.format * args.all.employers = add-sub_cancel _ 35 in
-    rw (c.put_short_frame.ensures, sized, place, le-ltb _ _ (rw sized at c.if-out-size.false))
+    let a = c.args in
+    let list = a.list.now in
+    let room = rw c.employer_size.ensures at c.if-out-size.false in
+    let last = rw c.employer_size.ensures at c.put_short_frame.ensures in
+    rw c.employer_size.ensures
+    (fits (employer_frames a.format (take a.all.employers list) ++ closing_frame a.all) a.out.now _ (all_length a.format list a.all c.requires.1) _ room
+    (all_written a.format list a.all c.requires.1 a.out.now _ _ c.put_employers.ensures last))

@@ -1,26 +1,12 @@
-use Prim.Native.Nat.{◌*◌}
-use mathlib.Core.Path.{refl, ◌∙◌, ap}
-use native.Mathlib.Omega.{arith}
-use lib.ListN.{get_or}
-use Rattle.tables.specs.Tables.{no_employer}
-use Rattle.tables.specs.declared.Employer.{Employer}
+use mathlib.Core.Path.{refl, ◌∙◌}
 use Rattle.frames.specs.FrameLaws.{none_written, one_more}
-use Rattle.frames.specs.Frames.{employer_frame, employer_size}
-use Rattle.frames.specs.Pasted.{pasted}
 use Rattle.frames.proofs.put_employers.Goals as goal
 
 pub loop-i-init : goal.loop-i-init
-loop-i-init c = (omega arith, refl, none_written c.args.format c.args.list.now c.args.out.now)
+loop-i-init c = (refl, none_written c.args.format c.args.list.now c.args.out.now)
 
 pub loop-i-preserved : goal.loop-i-preserved
 loop-i-preserved c =
     let l = c.loop-i in
-    let format = c.args.format in
-    let list = c.args.list.now in
-    let at = employer_size format * l.i in (
-      omega arith,
-      c.put_employer.auto.out ∙ l.invariant.1,
-      c.put_employer.ensures ∙ ap (λ (e : Employer). pasted at (employer_frame format e) l.out) c.entry_at-e.ensures
-          ∙ ap (pasted at (employer_frame format (get_or list l.i no_employer))) l.invariant.2
-          ∙ one_more format list l.i c.args.out.now (omega arith),
-    )
+    let put = rw (c.employer_size-size.ensures, l.invariant.1) at c.put_employer.ensures in
+    (c.put_employer.auto.out ∙ l.invariant.0, put ∙ one_more c.args.format c.args.list.now l.i c.args.out.now c.loop-i-test.true)

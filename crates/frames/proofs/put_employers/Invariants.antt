@@ -1,12 +1,9 @@
--- Each turn looks at one more entry, and puts its frame behind those before it.
-use Prim.Native.Nat.{◌-◌, ◌≤◌}
+-- Each turn puts the frame of one more employer behind those before it.
 use mathlib.Core.Path.{◌≡◌}
-use lib.ListN.{length}
-use Rattle.frames.specs.FrameParts.{front}
+use lib.ListN.{length, take}
+use Rattle.frames.specs.Frames.{employer_frames}
+use Rattle.frames.specs.Pasted.{pasted}
 use Rattle.frames.proofs.put_employers.Given as goal
 
 abbrev pub invariant-loop-i : goal.invariant-loop-i
-invariant-loop-i l = (l.i ≤ l.n) × (length l.out ≡ length l.initial.out) × (l.out ≡ front l.list l.initial.out l.format l.i)
-
-abbrev pub decreases-loop-i : goal.decreases-loop-i
-decreases-loop-i l = l.n - l.i
+invariant-loop-i l = (length l.out ≡ length l.initial.out) × (l.out ≡ pasted 0 (employer_frames l.format (take l.i l.list)) l.initial.out)

@@ -1,5 +1,4 @@
 -- The invariant: what is left to write makes of the buffer what the whole would.
-use Prim.Native.Nat.{◌≤◌}
 use mathlib.Core.Path.{◌≡◌}
 use lib.ListN.{length}
 use Rattle.frames.specs.Hex.{hex}
@@ -8,7 +7,4 @@ use Rattle.frames.proofs.put_hex.Given as goal
 
 abbrev pub invariant-loop-left : goal.invariant-loop-left
 invariant-loop-left l =
-    (l.left ≤ l.digits) × (length l.out ≡ length l.initial.out) × (pasted l.at (hex l.digits l.v) l.initial.out ≡ pasted l.at (hex l.left l.rest) l.out)
-
-abbrev pub decreases-loop-left : goal.decreases-loop-left
-decreases-loop-left l = l.left
+    (length l.out ≡ length l.initial.out) × (pasted l.at (hex l.digits l.v) l.initial.out ≡ pasted l.at (hex l.left l.rest) l.out)

@@ -1,17 +1,10 @@
 -- Part after part.
-use mathlib.Core.Path.{◌∙◌}
 use native.Mathlib.Omega.{arith}
-use lib.ListN.{length-set}
 use Rattle.frames.specs.FrameLaws.{three_length, frame_written}
 use Rattle.frames.specs.Frames.{three_numbers}
 use Rattle.frames.specs.Hex.{hex}
 use Rattle.frames.specs.HexLaws.{hex_length}
 use Rattle.frames.proofs.put_pfml_employer.Goals as goal
-
-pub shape_of-out : goal.shape_of-out
-shape_of-out c =
-    length-set c.put_hex-3.new.out _ _
-    ∙ omega (arith, c.put_three_numbers.auto, c.put_hex.auto, c.put_hex-2.auto, c.put_hex-3.auto)
 
 pub returns : goal.returns
 returns c =

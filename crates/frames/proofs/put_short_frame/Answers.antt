@@ -1,13 +1,8 @@
 -- The three numbers, then the line's end.
-use mathlib.Core.Path.{◌∙◌}
 use native.Mathlib.Omega.{arith}
-use lib.ListN.{length-set}
 use Rattle.frames.specs.FrameLaws.{three_length, line_ended}
 use Rattle.frames.specs.Frames.{three_numbers}
 use Rattle.frames.proofs.put_short_frame.Goals as goal
-
-pub shape_of-out : goal.shape_of-out
-shape_of-out c = let numbers = c.put_three_numbers in length-set numbers.new.out _ _ ∙ omega (arith, numbers.auto.out)
 
 pub returns : goal.returns
 returns c =

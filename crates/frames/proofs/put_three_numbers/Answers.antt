@@ -5,10 +5,6 @@ use Rattle.frames.specs.Hex.{hex}
 use Rattle.frames.specs.HexLaws.{hex_length}
 use Rattle.frames.proofs.put_three_numbers.Goals as goal
 
-pub shape_of-out : goal.shape_of-out
-shape_of-out c =
-    omega (arith, c.put_hex.auto, c.put_hex-2.auto, c.put_hex-3.auto, c.put_hex-4.auto)
-
 pub returns : goal.returns
 returns c =
     let args = c.args in

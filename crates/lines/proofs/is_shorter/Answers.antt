@@ -1,30 +1,16 @@
--- The invariant: an end was found where the line is shorter than what was looked at.
-use mathlib.Core.Path.{◌≡◌, sym}
-use native.Mathlib.Omega.{arith}
-use borrow.Author.Tests.{lt-ltb, le-ltb}
-use lib.Dec.{ltb}
-use lib.ListN.{length}
-use Rattle.lines.specs.Lines.{text_of}
-use Rattle.lines.specs.Looking.{mark_or, marked, text_short, shorter_next}
+-- An end was found where the line is shorter than what was looked at.
+use Rattle.std.proofs.Common.{arith}
+use Rattle.std.proofs.lemmas.Grind.{common_steps}
+use Rattle.lines.specs.Looking.{found_next, text_short}
 use Rattle.lines.proofs.is_shorter.Goals as goal
 
-pub returns-then-s-n : goal.returns-then-s-n
-returns-then-s-n c =
-    let s = c.args.s.now in
-    let short = text_short s in
-    sym (lt-ltb (length (text_of s)) c.args.n (omega arith))
+pub returns-in_default : goal.returns-in_default
+returns-in_default c =
+    let short = text_short c.args.s.now in
+    grind (arith, common_steps, c.in_default.ensures.lookup)
 
-pub loop-i-init : goal.loop-i-init
-loop-i-init c = (omega arith, rw (le-ltb (length (text_of c.args.s.now)) 0 (omega arith)))
-
-pub loop-i-preserved : goal.loop-i-preserved
-loop-i-preserved c =
-    let l = c.loop-i in
-    let s = c.args.s.now in
-    (omega arith, rw (l.invariant.1, c.end_mark-found.ensures, shorter_next s l.i (omega arith)) (mark_or (ltb (length (text_of s)) l.i) _))
-
-pub returns : goal.returns
-returns c =
-    let l = c.loop-i in
-    let all : l.i ≡ c.args.n = omega arith in
-    rw (l.invariant.1, all) (marked _)
+pub loop-b-preserved : goal.loop-b-preserved
+loop-b-preserved c =
+    let front = c.in-Some.ensures.lookup.0 in
+    let more = found_next c.args.s.now c.args.n c.loop-b.b-index (omega (arith, front.3)) (omega (arith, front.1)) in
+    rw (c.loop-b.invariant, c.from-found.ensures, c.is_end.ensures, front.2) more

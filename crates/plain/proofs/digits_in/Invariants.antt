@@ -8,6 +8,3 @@ use Rattle.plain.proofs.digits_in.Given as goal
 abbrev pub invariant-loop-i : goal.invariant-loop-i
 invariant-loop-i l =
     (l.from ≤ l.i) × (l.i ≤ l.to) × (l.v + 2 ≤ 2 * 10 ^ (l.i - l.from)) × (digits_from l.line l.v l.i (l.to - l.i) ≡ digits_from l.line 0 l.from (l.to - l.from))
-
-abbrev pub decreases-loop-i : goal.decreases-loop-i
-decreases-loop-i l = l.to - l.i

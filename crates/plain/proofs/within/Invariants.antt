@@ -6,6 +6,3 @@ use Rattle.plain.proofs.within.Given as goal
 
 abbrev pub invariant-loop-i : goal.invariant-loop-i
 invariant-loop-i l = (l.i ≤ 288) × (l.good ≡ within l.low l.high l.line l.i)
-
-abbrev pub decreases-loop-i : goal.decreases-loop-i
-decreases-loop-i l = 288 - l.i

@@ -5,4 +5,4 @@ use Rattle.std.proofs.lemmas.List.{length-replicate}
 use Rattle.program.proofs.run.Goals as goal
 
 pub slice_bounds-all_turns-end : goal.slice_bounds-all_turns-end
-slice_bounds-all_turns-end c = sym (length-replicate {0} {A = ℕ} 524288 0)
+slice_bounds-all_turns-end g c = sym (length-replicate {0} {A = ℕ} 524288 0)

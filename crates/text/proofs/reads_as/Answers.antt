@@ -1,16 +1,16 @@
--- The invariant: the symbols left say what the whole pattern says.
-use mathlib.Core.Path.{refl, sym, ◌∙◌}
-use Rattle.text.specs.TextLaws.{pattern_done, pattern_not, pattern_more}
+use Rattle.std.proofs.Common.{ℕ, get_or, rules, tests, ◌∙◌}
+use Rattle.std.proofs.lemmas.Iterator.{YieldsList-from_slice}
+use Rattle.std.proofs.lemmas.Iterator.Consumers.{YieldsList-from_enumerate}
+use Rattle.std.proofs.lemmas.Iterator.Search.{all_from_yields_List}
+use Rattle.chars.specs.Characters.{capitals}
+use Rattle.text.specs.Text.{is_asked}
+use Rattle.text.specs.TextLaws.{reads_all}
 use Rattle.text.proofs.reads_as.Goals as goal
 
-pub loop-i-preserved : goal.loop-i-preserved
-loop-i-preserved c = c.loop-i.invariant ∙ pattern_more _ _ _ c.loop-i-test.true (cc)
-
-pub returns-else-is_asked : goal.returns-else-is_asked
-returns-else-is_asked c = sym (c.loop-i.invariant ∙ pattern_not _ _ _ c.loop-i-test.true (cc))
-
-pub loop-i-init : goal.loop-i-init
-loop-i-init c = refl
-
 pub returns : goal.returns
-returns c = sym (c.loop-i.invariant ∙ pattern_done _ _ _ c.loop-i-test.false)
+returns c =
+    let text = capitals c.args.text.now in
+    let pattern = c.args.pattern.now in
+    all_from_yields_List (λ (p : ℕ × ℕ). is_asked p.1 (get_or text p.0 0)) _ _ c.all.result c.all.ensures.ran
+    (YieldsList-from_enumerate (YieldsList-from_slice pattern (cc)) (cc)) (λ x b q k. search (rules, tests))
+    ∙ reads_all pattern text 0

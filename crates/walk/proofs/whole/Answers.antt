@@ -37,13 +37,6 @@ loop-at-preserved c =
           ∙ l.invariant.1,
     )
 
-pub loop-at-smaller : goal.loop-at-smaller
-loop-at-smaller c =
-    let l = c.loop-at in
-    let a = c.lines_at-a in
-    let farther = run_farther c.args.bytes.now l.at (walk_of l.st) (tables l.ids l.list) (out_of a.result (tables a.new.ids a.new.list)) c.loop-at-test.true a.ensures in
-    rw c.next_place-at.ensures (omega arith)
-
 pub returns : goal.returns
 returns c =
     let l = c.loop-at in

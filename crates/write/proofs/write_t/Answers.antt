@@ -1,13 +1,6 @@
-use Rattle.write.specs.WritingLaws.{writes, leaves, written_length}
+use Rattle.write.specs.WritingLaws.{written_length}
 use Rattle.write.proofs.write_t.Goals as goal
 
 pub put_t-requires : goal.put_t-requires
 put_t-requires c =
-    written_length 290 _ _ _ _ _ _ c.answer_t-answer.ensures c.in-Record.is
-
-pub returns-in-Refused : goal.returns-in-Refused
-returns-in-Refused c = leaves _ _ c.answer_t-answer.ensures _ _ _ c.in-Refused.is
-
-pub returns-in-Record : goal.returns-in-Record
-returns-in-Record c =
-    rw c.put_t.ensures (writes _ _ c.answer_t-answer.ensures _ _ c.in-Record.is)
+    written_length 290 _ _ _ _ _ _ c.answer.ensures c.in_ok-answer.was

@@ -6,9 +6,6 @@ use Rattle.chars.specs.Characters.{capitals}
 use Rattle.build.specs.Values.{trimmed, text_in}
 use Rattle.build.proofs.read.text_length.Given as goal
 
-abbrev pub invariant-loop-end : goal.invariant-loop-end
-invariant-loop-end l =
-    (l.end ≤ length (capitals l.line)) × (text_in (capitals l.line) l.first l.last ≡ trimmed (take (l.end - l.from) (drop l.from (capitals l.line))))
-
-abbrev pub decreases-loop-end : goal.decreases-loop-end
-decreases-loop-end l = l.end
+abbrev pub invariant-loop-at : goal.invariant-loop-at
+invariant-loop-at l =
+    (l.at ≤ length (capitals l.line)) × (text_in (capitals l.line) l.first l.last ≡ trimmed (take (l.at - l.start) (drop l.start (capitals l.line))))

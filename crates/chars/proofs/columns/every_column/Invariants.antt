@@ -9,6 +9,3 @@ use Rattle.chars.proofs.columns.every_column.Given as goal
 abbrev pub invariant-loop-at : goal.invariant-loop-at
 invariant-loop-at l =
     every_column l.allowed (capitals l.line) l.first l.last ≡ first_of (allowed_test l.allowed (capitals l.line)) l.at (l.last - l.at)
-
-abbrev pub decreases-loop-at : goal.decreases-loop-at
-decreases-loop-at l = l.last - l.at

@@ -1,7 +1,6 @@
-use mathlib.Core.Path.{sym, ap, ◌∙◌}
 use native.Mathlib.Omega.{arith}
+use Rattle.std.proofs.Common.{sym, ap}
 use Rattle.lines.specs.Lines.{first_line}
-use Rattle.shape.specs.Shape.{judged_by}
 use Rattle.state.specs.UnfitLaws.{fit_lines}
 use Rattle.state.specs.Walks.{walk_of, standing_of}
 use Rattle.step.specs.ReadyLaws.{passed_ready}
@@ -11,13 +10,8 @@ pub refuse-requires : goal.refuse-requires
 refuse-requires c = fit_lines _ (walk_of c.args.st) c.requires.1
 
 pub go_on-requires : goal.go_on-requires
-go_on-requires c = let a = c.args in
-    let e = rw c.context-here.ensures at (sym c.judge-v.ensures ∙ ap judged_by c.in-Passed.is) in
+go_on-requires c =
+    let a = c.args in
+    let e = rw c.context-here.ensures at (sym c.in-Ok.ensures) in
     passed_ready (record { ids = a.ids; list = a.list }) (walk_of a.st) a.phase (ap standing_of c.requires.0) c.requires.1 (omega arith)
     a.seen (first_line a.bytes.now) _ _ e
-
-pub returns-in-Refused : goal.returns-in-Refused
-returns-in-Refused c = rw (← c.context-here.ensures, sym c.judge-v.ensures ∙ ap judged_by c.in-Refused.is) c.refuse.ensures
-
-pub returns-in-Passed : goal.returns-in-Passed
-returns-in-Passed c = rw (← c.context-here.ensures, sym c.judge-v.ensures ∙ ap judged_by c.in-Passed.is) c.go_on.ensures

@@ -1,23 +1,12 @@
--- The invariant: what is left of the text makes of the line what the whole would.
-use mathlib.Core.Path.{refl, sym, ◌∙◌}
-use borrow.Author.Rules.{rules}
+use Rattle.std.proofs.Common.{◌≡◌, ◌+◌, ◌-◌, arith}
 use Rattle.text.specs.Put.{put_text}
-use Rattle.text.specs.PutLaws.{text_done, text_more, text_past}
+use Rattle.text.specs.PutLaws.{text_copied}
 use Rattle.text.proofs.put.put_text.Goals as goal
 
-pub loop-i-init : goal.loop-i-init
-unfolding put_text
-loop-i-init c = (refl, rw c.index_of-at.ensures)
-
-pub loop-i-preserved : goal.loop-i-preserved
-loop-i-preserved c =
-    let l = c.loop-i in
-    (search rules, l.invariant.1 ∙ text_more _ _ _ _ c.loop-i-test.true)
-
-pub returns-then-line-at : goal.returns-then-line-at
-returns-then-line-at c =
-    let text = c.args.text.now in
-    sym (c.loop-i.invariant.1 ∙ text_past _ text _ c.loop-i.i c.if-line-at.true)
-
 pub returns : goal.returns
-returns c = sym (c.loop-i.invariant.1 ∙ text_done _ _ _ _ c.loop-i-test.false)
+unfolding put_text
+returns c =
+    let at = c.min-at.result in
+    let room = c.min-room.result in
+    let wide : at + room - at ≡ room = omega arith in
+    rw wide (cc (text_copied c.args.line.now c.args.text.now (c.args.first - 1) at room (omega arith) (omega arith)))

@@ -1,4 +1,0 @@
-use Rattle.ack.proofs.walking.Goals as goal
-
-pub returns : goal.returns
-returns c = rw c.least.ensures

@@ -1,4 +1,0 @@
-use Rattle.pfml.proofs.said.employee_on.Goals as goal
-
-pub returns : goal.returns
-returns c = cc

@@ -1,6 +1,0 @@
-use mathlib.Core.Path.{ap, ◌∙◌}
-use Rattle.pfml.specs.Kinds.{kind_of}
-use Rattle.pfml.proofs.said_on.Goals as goal
-
-pub returns : goal.returns
-returns c = rw (c.kind_of.ensures ∙ ap kind_of c.char_at.ensures) at c.said_by.ensures

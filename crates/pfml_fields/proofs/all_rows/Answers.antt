@@ -1,8 +1,0 @@
--- The constant is the list of the definition, computed.
-use mathlib.Core.Path.{refl}
-use Rattle.pfml_fields.specs.Fields.{fields_of_a, fields_of_e, fields_of_s, fields_of_t, fields_of_f, fields}
-use Rattle.pfml_fields.proofs.all_rows.Goals as goal
-
-pub returns : goal.returns
-unfolding fields fields_of_a fields_of_e fields_of_s fields_of_t fields_of_f
-returns c = refl

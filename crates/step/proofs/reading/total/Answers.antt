@@ -1,4 +1,0 @@
-use Rattle.step.proofs.reading.total.Goals as goal
-
-pub returns : goal.returns
-returns c = rw (c.moves.ensures, c.after-next.ensures, c.none_open-none.ensures)

@@ -1,4 +1,0 @@
-use Rattle.step.proofs.refuse.Goals as goal
-
-pub returns : goal.returns
-returns c = rw c.refused.ensures

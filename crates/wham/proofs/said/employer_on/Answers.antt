@@ -1,4 +1,0 @@
-use Rattle.wham.proofs.said.employer_on.Goals as goal
-
-pub returns : goal.returns
-returns c = cc
