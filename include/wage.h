@@ -4,8 +4,7 @@
  *
  * It is proved in Rattle (docs/PROVED.md): every call below returns, touches nothing but what it
  * is lent, and answers as written here, whatever numbers and bytes it is lent. Link libwage.a
- * (x86-64 Linux), which `rt lib`, in crates/wage, writes;
- * of the C library it needs memcpy and memmove and memset.
+ * (x86-64 Linux), which `rt lib`, in crates/wage, writes; of the C library it needs memcpy and memset.
  *
  * What the caller owes. No proof reaches a caller in C, and nothing below is tested at run time:
  *   - each pointer is good for as many elements as the length after it says: to be read, and

@@ -199,12 +199,24 @@ def noise(pick):
         yield test, pick.randrange(0, 10), pick.randrange(0, 16), text
 
 
+def line_ends():
+    """Cases that end at CR, and at CR and LF, between which stands a case of nothing."""
+    yield (20, 1, 3, "123"), "\r"
+    yield (20, 1, 3, "456"), "\r\n"
+    yield (20, 1, 3, "789"), "\n"
+
+
 def made():
     pick = random.Random(290)
     cases = [c for part in (numbers(), texts(), addresses(), dates(pick), cuts(), characters(), noise(pick)) for c in part]
     given = "".join("%02d%03d%03d%s\n" % c for c in cases)
     told = "".join(answer(*c) + "\n" for c in cases)
-    return given, told, len(cases)
+    for case, end in line_ends():
+        given += "%02d%03d%03d%s" % case + end
+        told += answer(*case) + "\n"
+        if end == "\r\n":
+            told += answer(99, 0, 0, "") + "\n"
+    return given, told, len(cases) + 4
 
 
 def main():

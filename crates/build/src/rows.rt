@@ -44,8 +44,7 @@ pub fn row_of(letter: u8, k: usize) -> Field
 {
     if k < count(letter) {
         let kind = kind::order_of(kind::kind_of(letter));
-        let all = pfml_fields::all_rows();
-        return rows::row_at(&all, pfml_fields::first_field(kind) + k);
+        return rows::row_at(pfml_fields::all_rows(), pfml_fields::first_field(kind) + k);
     }
     rows::NO_ROW
 }

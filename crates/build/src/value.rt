@@ -36,7 +36,7 @@ pub struct GivenField<'a> {
 }
 
 // How many columns a field has.
-fn width_of(first: u16, last: u16) -> u16
+pub fn width_of(first: u16, last: u16) -> u16
     ensures { result ≡ width_of first last }
 {
     last.saturating_sub(chars::index_of(first))
@@ -70,7 +70,7 @@ impl GivenField<'_> {
     }
 
     // How many of the characters that are left of the texts it takes.
-    pub(crate) fn taken(&self) -> usize
+    pub fn taken(&self) -> usize
         ensures { result ≡ min (taken_by (form_in self.now.row) self.now.entry) (length self.now.texts.now) }
     {
         match self.form() {
@@ -80,7 +80,7 @@ impl GivenField<'_> {
     }
 
     // Whether its value fits its columns.
-    fn fits(&self) -> bool
+    pub fn fits(&self) -> bool
         ensures { result ≡ fits_in (width_of (first_in self.now.row) (last_in self.now.row)) (value_by (form_in self.now.row) self.now.letter self.now.entry self.now.texts.now) }
     {
         let width = width_of(self.row.first, self.row.last);
@@ -95,7 +95,7 @@ impl GivenField<'_> {
     }
 
     // Its value into its columns, which are blank.
-    pub(crate) fn put(&self, line: &mut [u8])
+    pub fn put(&self, line: &mut [u8])
         ensures { line.new ≡ put_part (part_of (filled self.now.letter self.now.row self.now.entry self.now.texts.now)) line.old }
     {
         let Field { first, last, .. } = self.row;

@@ -90,7 +90,13 @@ pub fn timing_of(held: Quarter, q: Quarter) -> Timing
 pub fn is_reportable(held: Quarter, q: Quarter) -> bool
     ensures { result ≡ is_reportable held q }
 {
-    is_filing_year(q.year) && is_quarter_month(q.month) && timing_of(held, q) != Timing::Later
+    is_filing_year(q.year)
+        && is_quarter_month(q.month)
+        && match timing_of(held, q) {
+            Timing::Closed => true,
+            Timing::Current => true,
+            Timing::Later => false,
+        }
 }
 
 fn is_leap(year: u64) -> bool

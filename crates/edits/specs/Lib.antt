@@ -14,6 +14,7 @@ pub mod WithContext
 pub mod FieldRow
 pub mod FieldRowLaws
 pub mod RowTests
+pub mod RuleNumbers
 pub mod Tests
 pub mod RowTestLaws
 pub mod FieldLaws

@@ -29,7 +29,8 @@ fn quarter_in_time(timing: Timing, first: u16) -> Edit
     ensures { finding_of result ≡ first_broken (quarter_in_time timing first) }
 {
     match timing {
-        Timing::Closed | Timing::Current => Ok(()),
+        Timing::Closed => Ok(()),
+        Timing::Current => Ok(()),
         Timing::Later => Err(Broken(first, Reason::PeriodTooLate)),
     }
 }
@@ -86,7 +87,11 @@ fn date_in_quarter(last_return: bool, v: u64, filed: Quarter, first: u16) -> Edi
 fn must_be_final(timing: Timing) -> bool
     ensures { result ≡ must_be_final timing }
 {
-    matches!(timing, Timing::Current)
+    match timing {
+        Timing::Closed => false,
+        Timing::Current => true,
+        Timing::Later => false,
+    }
 }
 
 fn final_if_current(timing: Timing, v: u64, first: u16) -> Edit

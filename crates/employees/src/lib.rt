@@ -16,10 +16,17 @@ ghost use Rattle.employees.specs.RunLaws.{Prepared, onward};
 
 use edits::{Open, Phase, Totals, format};
 use pfml::fitness::MOST_LINES;
-use plain::{Sighted, Template};
+use plain::{RECORD, Sighted};
 use shape::EmployeeOn;
 use state::{Stage, State, fitness};
 use step::Answer;
+
+// The lowest and the highest character that each column of the employer's S records may hold.
+#[derive(Clone, Copy)]
+struct Template {
+    low: [u8; RECORD],
+    high: [u8; RECORD],
+}
 
 // Where a run stopped: at a place of the bytes, in a state.
 #[derive(Clone, Copy)]
@@ -134,7 +141,7 @@ fn lines(
 {
     let mut run = begun;
     for _ in 0..most {
-        let Some(s) = plain::sight_at(bytes, run.at, template) else {
+        let Some(s) = plain::sight_at(bytes, run.at, &template.low, &template.high) else {
             return run;
         };
         if !takes(run.state, s, ids, marks) {

@@ -1,7 +1,7 @@
 // The classes of fields, and the class test of a field.
 #![tactic(auto, unfolding(crate::specs::ClassTests::class_test, crate::specs::Classes::class_of, crate::specs::Classes::classes))]
 
-ghost use Rattle.std.specs.Prelude.{◌≡◌};
+ghost use Rattle.std.specs.Prelude.{◌≡◌, get_or};
 ghost use Rattle.reason.specs.ReasonNumbers.{finding_of};
 ghost use Rattle.chars.specs.Characters.{capitals};
 ghost use Rattle.field.specs.Classes.{class_of};
@@ -76,6 +76,20 @@ pub struct Field {
     pub class: Class,
     pub first: u16,
     pub last: u16,
+}
+
+// A row of three numbers is a field: the number of its class, its first and its last column. A number
+// that names no class is that of an ignored one.
+impl From<[u16; 3]> for Field {
+    ghost from_gives = { λ row field. field ≡ (record { class = class_of (get_or row 0 0); first = get_or row 1 0; last = get_or row 2 0 }) };
+
+    fn from(row: [u16; 3]) -> Field {
+        Field {
+            class: class_of(row[0]),
+            first: row[1],
+            last: row[2],
+        }
+    }
 }
 
 // A row of a list of fields.

@@ -80,25 +80,15 @@ fn put_pfml_employer(out: &mut [u8], at: usize, e: Employer)
     out[at + 46] = b'\n';
 }
 
-// How long an employer's frame is.
-fn employer_size(format: Format) -> usize
-    ensures { result ≡ employer_size format }
+// An employer's frame, at its place.
+fn put_employer(format: Format, out: &mut [u8], i: usize, e: Employer)
+    requires { employer_size format * i + employer_size format ≤ length out.old }
+    ensures { out.new ≡ pasted (employer_size format * i) (employer_frame format e) out.old }
 {
     match format {
-        Format::Pfml => 47,
-        Format::Wham2024 | Format::Unknown => 35,
-    }
-}
-
-// An employer's frame.
-fn put_employer(format: Format, out: &mut [u8], at: usize, e: Employer)
-    requires { at + employer_size format ≤ length out.old }
-    ensures { out.new ≡ pasted at (employer_frame format e) out.old }
-{
-    match format {
-        Format::Pfml => put_pfml_employer(out, at, e),
+        Format::Pfml => put_pfml_employer(out, 47 * i, e),
         Format::Wham2024 | Format::Unknown => {
-            put_short_frame(out, at, 1, e.fein, e.count, e.cents)
+            put_short_frame(out, 35 * i, 1, e.fein, e.count, e.cents)
         }
     }
 }
@@ -108,9 +98,19 @@ fn put_employers(format: Format, out: &mut [u8], list: &[Employer])
     requires { employer_size format * length list.now ≤ length out.old }
     ensures { out.new ≡ pasted 0 (employer_frames format list.now) out.old }
 {
-    let size = employer_size(format);
     for (i, e) in list.iter().enumerate() {
-        put_employer(format, out, size * i, *e);
+        put_employer(format, out, i, *e);
+    }
+}
+
+// The bytes of n employers' frames.
+fn employers_size(format: Format, n: usize) -> usize
+    requires { n ≤ most_employers }
+    ensures { result ≡ employer_size format * n }
+{
+    match format {
+        Format::Pfml => 47 * n,
+        Format::Wham2024 | Format::Unknown => 35 * n,
     }
 }
 
@@ -120,7 +120,7 @@ fn accepted(format: Format, all: Totals, list: &[Employer], out: &mut [u8]) -> F
     ensures { framed_by result out.new ≡ fitted (employer_frames format (take all.employers list.now) ++ closing_frame all) out.old }
 {
     let n = all.employers as usize;
-    let front = employer_size(format) * n;
+    let front = employers_size(format, n);
     let size = front + 35;
     if out.len() < size {
         return Err(Unframed::TooSmall);

@@ -87,9 +87,9 @@ const RULES: [Rule; 72] = [
     Rule::Nothing,
 ];
 
-// The rules as a value, which a caller binds once and lends.
-pub fn all_rules() -> [Rule; 72]
-    ensures { result ≡ rules }
+// The rules, which stand in the program once.
+pub fn all_rules() -> &'static [Rule; 72]
+    ensures { result.now ≡ rules }
 {
-    RULES
+    &RULES
 }

@@ -112,6 +112,12 @@ module _ (low high s : List ℕ) where
     by true e = search
     by false e = refl
 
+  pub nothing_seen : seen low high s ≡ None → sight low high s ≡ record { taken = 0; id = 0; wages = 0 }
+  nothing_seen none = by (is_plain low high s) none where
+    by : (plain : Bool) → seen_by_test plain s ≡ None → seen_if plain s ≡ record { taken = 0; id = 0; wages = 0 }
+    by true e = search
+    by false e = refl
+
   pub some_seen : (v : Sighted) → seen low high s ≡ Some v → (v ≡ sight low high s) × (v.taken ≡ 0 → ⊥)
   some_seen v some = by (is_plain low high s) some where
     by : (plain : Bool) → seen_by_test plain s ≡ Some v → (v ≡ seen_if plain s) × (v.taken ≡ 0 → ⊥)

@@ -26,13 +26,6 @@ pub struct Sighted {
 // How many characters an S record has.
 pub const RECORD: usize = pfml_fields::RECORD as usize;
 
-// The lowest and the highest character that each column of an employer's S records may hold.
-#[derive(Clone, Copy)]
-pub struct Template {
-    pub low: [u8; RECORD],
-    pub high: [u8; RECORD],
-}
-
 const LETTER: [u8; 1] = *b"S";
 
 // The places of the identity number and of the wages, and the columns of both names.
@@ -110,14 +103,13 @@ pub fn fits(fein: u64, filed: Quarter) -> bool
     fein <= LAST_FEIN && calendar::is_allowed(filed)
 }
 
-// Whether each column lies between those of the template. Every one of them is looked at, so that a
-// compiler can compare several at once; the last two stand apart, so that it has none left over.
-fn within(line: &[u8], template: &Template) -> bool
-    requires { 290 ≤ length line.now }
-    ensures { result ≡ within template.now.low template.now.high line.now 290 }
+// Whether each column lies between those of the two records. Every one of them is looked at, so
+// that a compiler can compare several at once; the last two stand apart, so that it has none left
+// over.
+fn within(line: &[u8], low: &[u8], high: &[u8]) -> bool
+    requires { (290 ≤ length line.now) × (290 ≤ length low.now) × (290 ≤ length high.now) }
+    ensures { result ≡ within low.now high.now line.now 290 }
 {
-    let low = &template.low;
-    let high = &template.high;
     let mut good = true;
     for i in 0..288 {
         let c = line[i];
@@ -142,11 +134,11 @@ fn digits_in(line: &[u8], from: usize, to: usize) -> u64
 }
 
 // The S record in front of bytes that hold a whole line.
-fn sight_here(line: &[u8], template: &Template) -> Option<Sighted>
-    requires { 292 ≤ length line.now }
-    ensures { result ≡ seen template.now.low template.now.high line.now }
+fn sight_here(line: &[u8], low: &[u8], high: &[u8]) -> Option<Sighted>
+    requires { (292 ≤ length line.now) × (290 ≤ length low.now) × (290 ≤ length high.now) }
+    ensures { result ≡ seen low.now high.now line.now }
 {
-    if !within(line, template) {
+    if !within(line, low, high) {
         return None;
     }
     if !columns::all_hold(Allowed::OfNames, line, NAMES_FIRST, NAMES_LAST) {
@@ -168,15 +160,23 @@ fn sight_here(line: &[u8], template: &Template) -> Option<Sighted>
     })
 }
 
-// The S record at a place of the bytes, seen in one sweep; none: look closer.
-pub fn sight_at(bytes: &[u8], at: usize, template: &Template) -> Option<Sighted>
-    ensures { result ≡ seen template.now.low template.now.high (drop at bytes.now) }
+// The S record at a place of the bytes, seen in one sweep; none: look closer. By two records of
+// which one is too short nothing is seen.
+#[tactic(auto, using(crate::specs::SightOutcomes::low_short, crate::specs::SightOutcomes::high_short))]
+pub fn sight_at(bytes: &[u8], at: usize, low: &[u8], high: &[u8]) -> Option<Sighted>
+    ensures { result ≡ seen low.now high.now (drop at bytes.now) }
 {
+    if low.len() < RECORD {
+        return None;
+    }
+    if high.len() < RECORD {
+        return None;
+    }
     if bytes.len() < at {
         return None;
     }
     if bytes.len() - at < WHOLE_LINE {
         return None;
     }
-    sight_here(&bytes[at..], template)
+    sight_here(&bytes[at..], low, high)
 }

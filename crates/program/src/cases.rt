@@ -4,7 +4,8 @@
 // case that is cut short ends the program.
 #![tactic(auto)]
 
-ghost use Rattle.std.specs.Prelude.{◌+◌, ◌≤◌, IfSome, length};
+ghost use Rattle.std.specs.Prelude.{◌≡◌, ◌+◌, ◌≤◌, IfSome, length};
+ghost use Rattle.ack.specs.declared.Progress.TheVariants.{Waiting};
 
 use crate::{Between, Held, Telling};
 use ack::Progress;
@@ -29,6 +30,8 @@ fn read_piece(rt: HostRuntime, buf: &mut [u8], have: usize, want: u64) -> usize
 }
 
 impl Telling for Cases {
+    ghost over = { λ cases ended progress. ended };
+
     // Each case names its own format.
     fn begin(self, rt: HostRuntime) -> Option<Between> {
         let mut head = [0u8; 17];

@@ -2,7 +2,9 @@
 // on standard error.
 #![tactic(auto)]
 
-ghost use Rattle.std.specs.Prelude.{◌≤◌, IfSome, length};
+ghost use Rattle.std.specs.Prelude.{◌≡◌, ◌≤◌, IfSome, Some, None, length};
+ghost use Rattle.ack.specs.declared.Progress.TheVariants.{Waiting};
+ghost use Rattle.program.specs.Tellings.{is_finished};
 
 use crate::{Between, Held, Telling};
 use ack::Progress;
@@ -19,7 +21,12 @@ fn message(rt: HostRuntime, text: &[u8]) {
 }
 
 impl Telling for One {
-    fn begin(self, rt: HostRuntime) -> Option<Between> {
+    ghost over = { λ one ended progress. is_finished progress };
+
+    // There is always one.
+    fn begin(self, rt: HostRuntime) -> Option<Between>
+        ensures { result ≡ Some (record { have = 0; left = 0; piece = 0; format = self.0; progress = Waiting }) }
+    {
         Some(crate::before(0, 0, self.0))
     }
 
@@ -47,7 +54,9 @@ impl Telling for One {
 
     // Of a finished walk the frames are always written (`program_means`); any other answer is told,
     // and no frame comes.
-    fn tell(self, rt: HostRuntime, framed: Framed, out: &[u8]) -> Option<Between> {
+    fn tell(self, rt: HostRuntime, framed: Framed, out: &[u8]) -> Option<Between>
+        ensures { result ≡ None }
+    {
         match framed {
             Ok(n) => {
                 if rt.stdout().write_all(&out[..n.min(out.len())]).is_err() {

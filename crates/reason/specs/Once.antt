@@ -1,6 +1,7 @@
 -- Laws: each number of the paper's table has one reason and each reason one number, so that a promise in numbers leaves room for one answer.
-use Rattle.std.specs.Prelude.{ℕ, ◌<◌, Bool, true, List, [], ◌∷◌, ◌≡◌, refl, T, length, get_or, if◌then◌else◌, Result, Ok, Err, ⊤, false}
-use Rattle.std.proofs.Common.{sym, ap, ◌∙◌, arith, rules, eqb-true, eq-eqb, ne_eqb}
+use Rattle.std.specs.Prelude.{ℕ, ◌<◌, Bool, true, List, [], ◌∷◌, ◌≡◌, refl, T, length, get_or, if◌then◌else◌, Result, Ok, Err, ⊤, false, ◌⊎◌}
+use Rattle.std.proofs.Common.{sym, ap, ◌∙◌, inl, inr, eqb, arith, rules, eqb-true, eq-eqb, ne_eqb}
+use Rattle.std.specs.Result.{result_unwrap_or}
 use Rattle.laws.specs.Finding.{fine, broken, value, refused}
 use Rattle.laws.specs.Table.{every, at}
 use Rattle.reason.specs.ReasonNumbers.{number_of, reasons, having_number, reason_of, is_listed, reason_listed, finding_of, reading_of, Notice, notice_of, listed}
@@ -135,6 +136,34 @@ told_listed n reason false is e = absurd (search rules)
 -- A reason that a number has is listed by that number.
 pub has_listed : (n : ℕ) (reason : Reason) → reason_listed n ≡ Ok reason → (is_listed n ≡ true) × (number_of reason ≡ n)
 has_listed n reason e = told_listed n reason (is_listed n) refl e
+
+-- The reason that a list has for a number has it, or is that of 72.
+having : (n : ℕ) (list : List Reason) → (number_of (having_number n list) ≡ n) ⊎ (having_number n list ≡ StateUnfit)
+unfolding having_number
+having n [] = inr refl
+having n (reason ∷ rest) = by (having n rest) (eqb n (number_of reason)) refl
+  where
+    by : (number_of (having_number n rest) ≡ n) ⊎ (having_number n rest ≡ StateUnfit) → (same : Bool) → eqb n (number_of reason) ≡ same
+        → (number_of (if same then reason else having_number n rest) ≡ n) ⊎ ((if same then reason else having_number n rest) ≡ StateUnfit)
+    by later true e = inl (sym (eqb-true n (number_of reason) e))
+    by later false e = later
+
+-- A number that is not listed has the reason of 72.
+unlisted : (n : ℕ) → is_listed n ≡ false → reason_of n ≡ StateUnfit
+unfolding is_listed reason_of
+unlisted n e = by (having n reasons)
+  where
+    by : (number_of (having_number n reasons) ≡ n) ⊎ (having_number n reasons ≡ StateUnfit) → having_number n reasons ≡ StateUnfit
+    by (inl has) = absurd (search rules)
+    by (inr unfit) = unfit
+
+-- The reason of a number of the table, and of any other that of 72, is the number's reason.
+pub listed_or_unfit : (n : ℕ) → result_unwrap_or (reason_listed n) StateUnfit ≡ reason_of n
+listed_or_unfit n = by (is_listed n) refl
+  where
+    by : (listed : Bool) → is_listed n ≡ listed → result_unwrap_or {T = Reason} {E = NotListed} (if listed then Ok (reason_of n) else Err (record {})) StateUnfit ≡ reason_of n
+    by true e = refl
+    by false e = sym (unlisted n e)
 
 -- 0 is "accepted": it is no reason's.
 pub never_zero : (reason : Reason) → number_of reason ≡ 0 → ⊥

@@ -2,7 +2,7 @@
 #![tactic(auto)]
 
 ghost use Rattle.std.specs.Prelude.{◌≡◌};
-ghost use Rattle.reason.specs.ReasonNumbers.{number_of, reason_listed};
+ghost use Rattle.reason.specs.ReasonNumbers.{number_of, reason_of, is_listed, reason_listed};
 
 // One reason for each number of the paper's table, for 64 and 65 of document 02, and for 73, which
 // the formats bring. `u8::from` gives the number of a reason, and `Reason::try_from` is the way back:
@@ -248,4 +248,18 @@ impl TryFrom<u64> for Reason {
             _ => return Err(NotListed),
         })
     }
+}
+
+// The reason that has a number; where none has it, the reason of 72.
+pub fn reason_of(number: u64) -> Reason
+    ensures { result ≡ reason_of number }
+{
+    Reason::try_from(number).unwrap_or(Reason::StateUnfit)
+}
+
+// Whether a number is one of the paper's table.
+pub fn is_listed(number: u64) -> bool
+    ensures { result ≡ is_listed number }
+{
+    Reason::try_from(number).is_ok()
 }

@@ -24,20 +24,26 @@ pub fn read_year(line: &[u8], first: u16, last: u16) -> Result<u64, Broken>
 pub fn read_period(line: &[u8], first: u16, last: u16) -> Result<u64, Broken>
     ensures { reading_of result ≡ period_in (capitals line.now) first last }
 {
-    match number::read_number(line, first, last) {
-        Ok(month) if calendar::is_quarter_month(month) => Ok(month),
-        _ => Err(Broken(first, Reason::BadPeriod)),
+    let Ok(month) = number::read_number(line, first, last) else {
+        return Err(Broken(first, Reason::BadPeriod));
+    };
+    if calendar::is_quarter_month(month) {
+        return Ok(month);
     }
+    Err(Broken(first, Reason::BadPeriod))
 }
 
 // A flag: 47 where it is neither 0 nor 1.
 pub fn read_flag(line: &[u8], column: u16) -> Result<u64, Broken>
     ensures { reading_of result ≡ flag_in (capitals line.now) column }
 {
-    match number::read_number(line, column, column) {
-        Ok(flag) if flag <= 1 => Ok(flag),
-        _ => Err(Broken(column, Reason::BadFlag)),
+    let Ok(flag) = number::read_number(line, column, column) else {
+        return Err(Broken(column, Reason::BadFlag));
+    };
+    if flag <= 1 {
+        return Ok(flag);
     }
+    Err(Broken(column, Reason::BadFlag))
 }
 
 fn begins_with_69(fein: u64) -> bool

@@ -88,7 +88,8 @@ fn words_of(st: State) -> [u64; WORDS]
 }
 
 // The words of a state at the front of those that are lent, which tell that state again; where
-// these are too few, nothing is written.
+// these are too few, nothing is written. A loop, since `copy_from_slice` would have callers in C
+// bring memmove.
 pub fn put_words(st: State, words: &mut [u64])
     ensures written { words.new ≡ put_words (walk_of st) words.old }
     ensures read_back { word_count ≤ length words.old → walk_in words.new ≡ walk_of st }
@@ -96,7 +97,10 @@ pub fn put_words(st: State, words: &mut [u64])
     if words.len() < WORDS {
         return;
     }
-    words[..WORDS].copy_from_slice(&words_of(st));
+    let all = words_of(st);
+    for i in 0..WORDS {
+        words[i] = all[i];
+    }
 }
 
 fn line_in(n: u64) -> u32

@@ -160,11 +160,12 @@ fn more(rt: HostRuntime, test: u16, s: &[u8], a: u16, b: u16) -> io::Result<()> 
 }
 
 // ---- all cases
+// A case ends at LF or at CR; what stands after the last of these is no case.
 fn main(rt: HostRuntime) -> io::Result<()> {
     let mut buffer = [0u8; 65536];
     let n = streams::read_full(rt, &mut buffer)?;
     let mut rest = &buffer[..n];
-    while let Some(end) = rest.iter().position(|c| *c == b'\n') {
+    while let Some(end) = rest.iter().position(|c| matches!(*c, b'\n' | b'\r')) {
         run_case(rt, &rest[..end])?;
         rest = &rest[end + 1..];
     }

@@ -1,10 +1,9 @@
 -- Laws: how text is copied into a line, what then stands in its columns, and that the others stay as they were.
-use Rattle.std.specs.Prelude.{ℕ, zero, suc, ◌+◌, ◌-◌, ◌<◌, ◌≤◌, ◌≡◌, refl, List, [], ◌∷◌, ◌++◌, ◌⊎◌, length, min, map, get_or, set, take, drop}
-use Rattle.std.proofs.Common.{sym, ◌∙◌, append-nil, append_assoc, inl, inr, add-zero, not-suc-le-zero, arith, length-set, length-take-le, get_or-set_same, get_or-set_other}
-use borrow.Rule.Slice.PartMut.{put_mid}
+use Rattle.std.specs.Prelude.{ℕ, zero, suc, ◌+◌, ◌-◌, ◌<◌, ◌≤◌, ◌≡◌, refl, List, [], ◌∷◌, ◌⊎◌, length, min, map, get_or, set, take}
+use Rattle.std.proofs.Common.{sym, ◌∙◌, append-nil, inl, inr, add-zero, not-suc-le-zero, arith, length-set, length-take-le, get_or-set_same, get_or-set_other}
+use lib.Seq.{paste}
 use Rattle.std.proofs.Math.Seq.{take-nil, drop-length, set_out, length-sets}
-use Rattle.std.proofs.lemmas.List.Edits.{sets-eq, sets, paste_all}
-use Rattle.std.proofs.lemmas.Slice.{put_mid-paste}
+use Rattle.std.proofs.lemmas.List.Edits.{sets-eq, sets}
 use Rattle.std.proofs.lemmas.Bool.{cases_lt}
 use Rattle.std.proofs.lemmas.Bool.Decides.{nat_tests}
 use Rattle.std.specs.Char.{to_ascii_uppercase}
@@ -46,12 +45,11 @@ module _ (line text : List ℕ) (at place room : ℕ) (within : place ≡ min (l
       by (inl past) = none_past text line place (omega arith) ∙ sym (none_past text line at (omega arith))
       by (inr there) = let same : place ≡ at = omega arith in rw same
 
-  pub text_copied : put_mid place room line (take room text) ≡ sets line at text
+  pub text_copied : paste line place text room ≡ sets line at text
   text_copied =
       let taken : length (take room text) ≡ room = length-take-le room text (omega arith) in
-      let copied : sets line place (take room text) ≡ take place line ++ (take room text ++ drop (place + room) line) = rw (taken, append_assoc) at (sets-eq (take room text) line place (omega arith)) in
-      put_mid-paste place room line (take room text) (take room text) room refl refl (sym taken) ∙ paste_all line place (take room text) room (sym taken)
-      ∙ sym copied ∙ sets_room text line place room fits ∙ same_place
+      let copied : sets line place (take room text) ≡ paste line place text room = rw taken at (sets-eq (take room text) line place (omega arith)) in
+      sym copied ∙ sets_room text line place room fits ∙ same_place
 
 -- A text that is as long as the line takes its place.
 pub put_all : (line text : List ℕ) → length text ≡ length line → put_text line 1 text ≡ text

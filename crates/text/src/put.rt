@@ -13,13 +13,15 @@ pub fn blank_line(line: &mut [u8])
 }
 
 // The text from a column on; column 0 is read as column 1. What would stand after the line's end is
-// left out.
+// left out. A loop, since `copy_from_slice` would have callers in C bring memmove.
 pub fn put_text(line: &mut [u8], first: u16, text: &[u8])
     ensures { line.new ≡ put_text line.old first text.now }
 {
     let at = line.len().min(chars::index_of(first) as usize);
     let room = text.len().min(line.len() - at);
-    line[at..at + room].copy_from_slice(&text[..room]);
+    for i in 0..room {
+        line[at + i] = text[i];
+    }
 }
 
 // Every character of the line as it is read.

@@ -20,7 +20,10 @@ fn change_ids(ids: &mut [u32], change: Change)
     ensures { ids.new ≡ ids_after change ids.old }
 {
     match change {
-        Change::Clear => ids.fill(0),
+        Change::Clear => {
+            let end = ids.len();
+            tables::zero_first(ids, end, 0);
+        }
         Change::Adds(at, id) => tables::put(ids, at, id),
         Change::Closes(used, _, _, _) => tables::zero_first(ids, used, 0),
         Change::Nothing | Change::Opens(_, _) => {}
@@ -31,7 +34,10 @@ fn change_list(list: &mut [Employer], change: Change)
     ensures { list.new ≡ list_after change list.old }
 {
     match change {
-        Change::Clear => list.fill(list::AT_REST),
+        Change::Clear => {
+            let end = list.len();
+            tables::zero_first(list, end, list::AT_REST);
+        }
         Change::Opens(at, entry) => tables::put(list, at, entry),
         Change::Closes(_, at, count, cents) => {
             let old = list::entry_at(list, at);

@@ -95,11 +95,11 @@ const RULES_OF_2024: [Rule; 78] = [
     Rule::Nothing,
 ];
 
-// The rules as a value, which a caller binds once and lends.
-pub fn all_rules(edition: Edition) -> [Rule; 78]
-    ensures { result ≡ rules edition }
+// The rules, which stand in the program once.
+pub fn all_rules(edition: Edition) -> &'static [Rule; 78]
+    ensures { result.now ≡ rules edition }
 {
     match edition {
-        Edition::Of2024 => RULES_OF_2024,
+        Edition::Of2024 => &RULES_OF_2024,
     }
 }

@@ -195,9 +195,9 @@ pub const FIRST_OF_F: usize = 71;
 
 pub const ALL_FIELDS: usize = 78;
 
-// The list of fields as a value, which a caller binds once and lends.
-pub fn all_rows() -> [Field; 78]
-    ensures { result ≡ fields }
+// The list of fields, which stands in the program once.
+pub fn all_rows() -> &'static [Field; 78]
+    ensures { result.now ≡ fields }
 {
-    FIELDS
+    &FIELDS
 }

@@ -130,6 +130,7 @@ fn put_t(e: Open, out: &mut [u8])
 }
 
 // F of the whole file.
+#[inline(always)]
 fn put_f(of: &FinalRecord, all: Totals, out: &mut [u8])
     ensures { out.new ≡ put_all (parts_of_final of.now all) (blanks (length out.old)) }
 {
@@ -141,7 +142,9 @@ fn put_f(of: &FinalRecord, all: Totals, out: &mut [u8])
     rows::write_at(out, of.sum, all.sum);
 }
 
-// The F record of a format, where `next` says that it may come next.
+// The F record of a format, where `next` says that it may come next. It is compiled into its callers,
+// where the columns are known.
+#[inline(always)]
 pub fn write_final(st: State, next: bool, of: &FinalRecord, out: &mut [u8]) -> Wrote
     ensures { written_by result out.new ≡ writing (refusal_of (unfit (no_tables (walk_of st)) (walk_of st)) (eqb (length out.old) of.now.size) next false (leb (10 ^ 15) (walk_of st).all.sum)) (line_of of.now.size (parts_of_final of.now (walk_of st).all)) out.old }
 {

@@ -7,10 +7,10 @@ use Rattle.plain.proofs.sight_at.Goals as goal
 
 pub returns-then-bytes-at : goal.returns-then-bytes-at
 returns-then-bytes-at c =
-    let t = c.args.template.now in
-    sym (too_short t.low t.high (drop c.args.at c.args.bytes.now) (rw length-drop (omega arith)))
+    let a = c.args in
+    sym (too_short a.low.now a.high.now (drop a.at a.bytes.now) (rw length-drop (omega arith)))
 
 pub returns-then-bytes-at-lt-WHOLE_LINE : goal.returns-then-bytes-at-lt-WHOLE_LINE
 returns-then-bytes-at-lt-WHOLE_LINE c =
-    let t = c.args.template.now in
-    sym (too_short t.low t.high (drop c.args.at c.args.bytes.now) (rw length-drop (omega arith)))
+    let a = c.args in
+    sym (too_short a.low.now a.high.now (drop a.at a.bytes.now) (rw length-drop (omega arith)))

@@ -11,36 +11,36 @@ use Rattle.plain.proofs.sight_here.Goals as goal
 
 pub returns-then-not-within : goal.returns-then-not-within
 returns-then-not-within c =
-    let t = c.args.template.now in
-    sym (not_between t.low t.high c.args.line.now c.requires (omega arith) (omega arith) (sym c.within.ensures ∙ c.if-not-within.true))
+    let a = c.args in
+    sym (not_between a.low.now a.high.now a.line.now c.requires.0 c.requires.1 c.requires.2 (sym c.within.ensures ∙ c.if-not-within.true))
 
 pub returns-then-not-all_hold : goal.returns-then-not-all_hold
 returns-then-not-all_hold c =
-    let t = c.args.template.now in
-    sym (no_names t.low t.high c.args.line.now c.requires (omega arith) (omega arith) (sym c.within.ensures ∙ c.if-not-within.false)
+    let a = c.args in
+    sym (no_names a.low.now a.high.now a.line.now c.requires.0 c.requires.1 c.requires.2 (sym c.within.ensures ∙ c.if-not-within.false)
     (sym c.all_hold.ensures ∙ c.if-not-all_hold.true))
 
 pub returns-then-end-eq0 : goal.returns-then-end-eq0
 returns-then-end-eq0 c =
-    let t = c.args.template.now in
-    sym (no_end t.low t.high c.args.line.now c.requires (omega arith) (omega arith) (sym c.within.ensures ∙ c.if-not-within.false)
+    let a = c.args in
+    sym (no_end a.low.now a.high.now a.line.now c.requires.0 c.requires.1 c.requires.2 (sym c.within.ensures ∙ c.if-not-within.false)
     (sym c.all_hold.ensures ∙ c.if-not-all_hold.false) (sym c.end_length-end.ensures ∙ c.if-end-eq0.true))
 
 pub returns-then-not-may_be_filed : goal.returns-then-not-may_be_filed
 returns-then-not-may_be_filed c =
-    let t = c.args.template.now in
-    sym (not_filed t.low t.high c.args.line.now c.requires (omega arith) (omega arith) (sym c.within.ensures ∙ c.if-not-within.false)
+    let a = c.args in
+    sym (not_filed a.low.now a.high.now a.line.now c.requires.0 c.requires.1 c.requires.2 (sym c.within.ensures ∙ c.if-not-within.false)
     (sym c.all_hold.ensures ∙ c.if-not-all_hold.false) (λ none. c.if-end-eq0.false (c.end_length-end.ensures ∙ none))
     (rw (← c.digits_in-id.ensures) (sym c.may_be_filed.ensures ∙ c.if-not-may_be_filed.true)))
 
 pub returns : goal.returns
 returns c =
-    let t = c.args.template.now in
+    let a = c.args in
     let taken = ap (λ (end : ℕ). 290 + end) c.end_length-end.ensures in
     let id = c.digits_in-id.ensures in
     let wages = c.digits_in-wages.ensures in
     ap {B = Option Sighted} Some (λ i. record { taken = taken i; id = id i; wages = wages i })
-    ∙ sym (is_plain_lem t.low t.high c.args.line.now c.requires (omega arith) (omega arith) (sym c.within.ensures ∙ c.if-not-within.false)
+    ∙ sym (is_plain_lem a.low.now a.high.now a.line.now c.requires.0 c.requires.1 c.requires.2 (sym c.within.ensures ∙ c.if-not-within.false)
     (sym c.all_hold.ensures ∙ c.if-not-all_hold.false) (λ none. c.if-end-eq0.false (c.end_length-end.ensures ∙ none))
     (rw (← c.digits_in-id.ensures) (sym c.may_be_filed.ensures ∙ c.if-not-may_be_filed.false)))
 

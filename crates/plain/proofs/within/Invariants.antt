@@ -1,5 +1,5 @@
 -- The invariant: what is told so far is told of the columns that the sweep has passed.
-use Prim.Native.Nat.{◌-◌, ◌≤◌}
+use Prim.Native.Nat.{◌≤◌}
 use mathlib.Core.Path.{◌≡◌}
 use Rattle.plain.specs.Plain.{within}
 use Rattle.plain.proofs.within.Given as goal

@@ -23,7 +23,7 @@ returns-then-k-count c =
     let k = c.args.k in
     let within : k < length (rows_for c.kind_of.result) = rw c.kind_of.ensures (omega arith) in
     c.row_at.ensures
-    ∙ ap (λ (list : List Field). get_or list (c.first_field.result + k) no_row) c.all_rows-all.ensures
+    ∙ ap (λ (list : List Field). get_or list (c.first_field.result + k) no_row) c.all_rows.ensures
     ∙ ap (λ (n : ℕ). get_or fields (n + k) no_row) (c.first_field.ensures ∙ ap first_field c.order_of-kind.ensures)
     ∙ row_there c.kind_of.result k within
     ∙ ap (λ (named : Kind). get_or (rows_for named) k no_row) c.kind_of.ensures
