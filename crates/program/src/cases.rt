@@ -7,7 +7,8 @@
 ghost use Rattle.std.specs.Prelude.{◌≡◌, ◌+◌, ◌≤◌, IfSome, length};
 ghost use Rattle.ack.specs.declared.Progress.TheVariants.{Waiting};
 
-use crate::{Between, Held, Telling};
+use crate::stated::StatedTelling;
+use crate::{Between, Held};
 use ack::Progress;
 use edits::format::Format;
 use frames::Framed;
@@ -29,7 +30,7 @@ fn read_piece(rt: HostRuntime, buf: &mut [u8], have: usize, want: u64) -> usize
     }
 }
 
-impl Telling for Cases {
+impl StatedTelling for Cases {
     ghost over = { λ cases ended progress. ended };
 
     // Each case names its own format.

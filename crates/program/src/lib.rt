@@ -5,9 +5,9 @@
 
 mod cases;
 mod one;
+pub mod stated;
 
-ghost use Rattle.std.specs.Prelude.{◌≡◌, ◌≤◌, Bool, IfSome, length};
-ghost use Rattle.ack.specs.declared.Progress.{Progress};
+ghost use Rattle.std.specs.Prelude.{◌≡◌, ◌≤◌, IfSome, length};
 ghost use Rattle.ack.specs.declared.Progress.TheVariants.{Waiting};
 
 use ack::Progress;
@@ -39,31 +39,25 @@ pub struct Between {
     pub progress: Progress,
 }
 
-// What stands on standard input, and what is told of it: an input, or one after the other.
+// What stands on standard input, and what is told of it: an input, or one after the other. `run`
+// takes every one; those that promise more are `stated::StatedTelling`.
 pub trait Telling: Copy {
-    // Whether the answer is told, as the input has ended or not and the program stands.
-    ghost over: { Self → Bool → Progress → Bool };
-
     // The beginning of the first input, if there is one.
-    fn begin(self, rt: HostRuntime) -> Option<Between>
-        ensures { IfSome result (λ at. (at.have ≡ 0) × (at.progress ≡ Waiting)) };
+    fn begin(self, rt: HostRuntime) -> Option<Between>;
 
     // Reads the next bytes of the input after those held; nothing, where they could not be read or
     // the input is cut short.
     fn read_more(self, rt: HostRuntime, buf: &mut [u8], at: Between) -> Option<Held>
         ensures { IfSome result (λ held. held.bytes ≤ length buf.new) };
 
-    // A read that failed ends the program. It promises nothing: it only writes, and no contract can
-    // say what is written.
+    // A read that failed ends the program.
     fn stop(self, rt: HostRuntime);
 
     // Whether the answer is told now.
-    fn is_over(self, ended: bool, progress: Progress) -> bool
-        ensures { result ≡ over self ended progress };
+    fn is_over(self, ended: bool, progress: Progress) -> bool;
 
     // Tells the answer; after it comes the beginning of the next input, if there is one.
-    fn tell(self, rt: HostRuntime, framed: Framed, out: &[u8]) -> Option<Between>
-        ensures { IfSome result (λ at. (at.have ≡ 0) × (at.progress ≡ Waiting)) };
+    fn tell(self, rt: HostRuntime, framed: Framed, out: &[u8]) -> Option<Between>;
 }
 
 // Before the header of an input that has so many bytes, or of one that is all there is to read.

@@ -6,7 +6,8 @@ ghost use Rattle.std.specs.Prelude.{◌≡◌, ◌≤◌, IfSome, Some, None, le
 ghost use Rattle.ack.specs.declared.Progress.TheVariants.{Waiting};
 ghost use Rattle.program.specs.Tellings.{is_finished};
 
-use crate::{Between, Held, Telling};
+use crate::stated::StatedTelling;
+use crate::{Between, Held};
 use ack::Progress;
 use edits::format::Format;
 use frames::Framed;
@@ -20,7 +21,7 @@ fn message(rt: HostRuntime, text: &[u8]) {
     let _ = rt.stderr().write_all(text);
 }
 
-impl Telling for One {
+impl StatedTelling for One {
     ghost over = { λ one ended progress. is_finished progress };
 
     // There is always one.
